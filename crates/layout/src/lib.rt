@@ -1,0 +1,97 @@
+// Where the words of a sheet stand: accessors over any words, which read 0 past the end, as the definitions do. None asks
+// anything of its caller.
+ghost use mathlib.Core.Path.{_≡_};
+ghost use Prim.Native.Nat.{_<_, _^_};
+ghost use Rattle.model.specs.Refusal.{outside};
+ghost use Rattle.model.specs.Sheet.{word, rowAt, place, streamCount, budget, streamsUpTo, streamAt, period, deadline, contentsWords};
+
+// A word as an index.
+pub fn wide(x: u32) -> usize
+    ensures { λ r. ⌜ (r ≡ x) × (r < 2 ^ 32) ⌝ }
+{
+    x as usize
+}
+
+// The word at an index of a lent table; 0 past its end.
+pub fn word_at(table: &[u32], i: usize) -> u32
+    ensures { λ r. ⌜ r ≡ word (now (table .entry)) i ⌝ }
+{
+    if i < table.len() { table[i] } else { 0 }
+}
+
+// Where the contents row of node k stands.
+pub fn row_at(k: u32) -> usize
+    ensures { λ r. ⌜ (r ≡ rowAt k) × (r < 2 ^ 34) ⌝ }
+{
+    if k == 0 { 3 } else { 3 + 3 * wide(k - 1) }
+}
+
+// The place of node k's body, as its row has it.
+pub fn place_of(sheet: &[u32], k: u32) -> u32
+    ensures { λ r. ⌜ r ≡ place (now (sheet .entry)) k ⌝ }
+{
+    word_at(sheet, row_at(k))
+}
+
+// The number of streams of node k.
+pub fn stream_count(sheet: &[u32], k: u32) -> u32
+    ensures { λ r. ⌜ r ≡ streamCount (now (sheet .entry)) k ⌝ }
+{
+    word_at(sheet, row_at(k) + 1)
+}
+
+// The budget of node k.
+pub fn budget_of(sheet: &[u32], k: u32) -> u32
+    ensures { λ r. ⌜ r ≡ budget (now (sheet .entry)) k ⌝ }
+{
+    word_at(sheet, row_at(k) + 2)
+}
+
+// Where stream j of node k stands.
+pub fn stream_at(sheet: &[u32], k: u32, j: u32) -> usize
+    ensures { λ r. ⌜ (r ≡ streamAt (now (sheet .entry)) k j) × (r < 2 ^ 34) ⌝ }
+{
+    let body = wide(place_of(sheet, k));
+    if j == 0 { body } else { body + 2 * wide(j - 1) }
+}
+
+// The least period of stream j of node k.
+pub fn period_of(sheet: &[u32], k: u32, j: u32) -> u32
+    ensures { λ r. ⌜ r ≡ period (now (sheet .entry)) k j ⌝ }
+{
+    word_at(sheet, stream_at(sheet, k, j))
+}
+
+// The deadline of stream j of node k.
+pub fn deadline_of(sheet: &[u32], k: u32, j: u32) -> u32
+    ensures { λ r. ⌜ r ≡ deadline (now (sheet .entry)) k j ⌝ }
+{
+    word_at(sheet, stream_at(sheet, k, j) + 1)
+}
+
+// The streams of nodes 1 to k together.
+pub fn streams_up_to(sheet: &[u32], k: u32) -> usize
+    ensures { λ r. ⌜ r ≡ streamsUpTo (now (sheet .entry)) k ⌝ }
+{
+    let mut sum: usize = 0;
+    let mut i: u32 = 0;
+    while i < k {
+        i += 1;
+        sum += wide(stream_count(sheet, i));
+    }
+    sum
+}
+
+// The words before the first body.
+pub fn contents_words(sheet: &[u32]) -> usize
+    ensures { λ r. ⌜ (r ≡ contentsWords (now (sheet .entry))) × (r < 2 ^ 34) ⌝ }
+{
+    3 + 3 * wide(word_at(sheet, 0))
+}
+
+// A number out of range.
+pub fn is_outside(least: u32, most: u32, x: u32) -> bool
+    ensures { λ r. ⌜ r ≡ outside least most x ⌝ }
+{
+    if x < least { true } else { most < x }
+}

@@ -1,0 +1,101 @@
+-- The clock of the bus: how far one turn moves it, and what holds before every turn of the protocol. Assumes nothing.
+use Prim.Native.Nat.{ℕ, zero, suc, _+_, _*_, _≤_, _<_}
+use mathlib.Core.Path.{_≡_, refl, _∙_}
+use mathlib.Core.Bool.{Bool, true, false, cond}
+use mathlib.Core.List.{List}
+use native.Mathlib.Nat.{mul-le-mul-right, le-refl}
+use native.Mathlib.Decide.{le-ind}
+use native.Mathlib.Omega.{arith}
+use lib.Dec.{eqb}
+use lib.ListN.{length, length-replicate}
+use borrow.Author.Tests.{eqb-false}
+use Rattle.model.specs.Limits.{notBegun}
+use Rattle.model.specs.Sheet.{nodes, messageTicks, slotTicks, budget}
+use Rattle.model.specs.Protocol.{releases, serveTurn, nextNode, nextBus, State, turn, start, stateAt, startOf, nodeOf}
+use Rattle.model.proofs.Serve.{Serving, serving, serve-length, serve-taken}
+
+-- How many messages turn i takes.
+abbrev pub takenIn : List ℕ → List ℕ → ℕ → ℕ
+takenIn s log i = serveTurn s log (stateAt s log i .bus) (stateAt s log i .begins) .taken
+
+-- The node after one on the sheet is on the sheet.
+next-range : (s : List ℕ) (k : ℕ) → 1 ≤ k → k ≤ nodes s → (1 ≤ nextNode s k) × (nextNode s k ≤ nodes s)
+unfolding nextNode
+next-range s k from upTo = go (eqb k (nodes s)) refl
+  where
+    go : (b : Bool) → eqb k (nodes s) ≡ b → (1 ≤ cond b 1 (k + 1)) × (cond b 1 (k + 1) ≤ nodes s)
+    go true last = omega arith
+    go false more = let other : k ≡ nodes s → ⊥ = eqb-false k (nodes s) more in omega arith
+
+module _ (s log : List ℕ) where
+  -- A turn moves the clock by its protocol slot at least.
+  pub turn-least : (st : State) → st .bus .tick + slotTicks s ≤ turn s log st .bus .tick
+  unfolding turn nextBus
+  turn-least st = omega arith
+
+  -- A turn moves the clock by its budget of messages and its protocol slot at most.
+  pub turn-most : (st : State)
+      → turn s log st .bus .tick ≤ st .bus .tick + budget s (st .bus .node) * messageTicks s + slotTicks s
+  unfolding turn nextBus
+  turn-most st =
+      let m : ℕ = budget s (st .bus .node) in
+      let taken : ℕ = serveTurn s log (st .bus) (st .begins) .taken in
+      let within = serve-taken (serving s log (st .bus .node) (st .bus .tick) m 0 (st .begins)) in
+      let messages : taken * messageTicks s ≤ m * messageTicks s = mul-le-mul-right (messageTicks s) (omega arith) in
+      omega arith
+
+  -- The protocol goes from turn to turn.
+  pub next-state : (i : ℕ) → stateAt s log (suc i) ≡ turn s log (stateAt s log i)
+  unfolding stateAt
+  next-state i = refl
+
+  -- Turn i as one account: what it takes and the words after it.
+  pub turn-account : (i : ℕ)
+      → Serving s log (nodeOf s log i) (startOf s log i) (budget s (nodeOf s log i))
+      0 (stateAt s log i .begins) (takenIn s log i) (stateAt s log (suc i) .begins)
+  unfolding stateAt turn
+  turn-account i =
+      serving s log (nodeOf s log i) (startOf s log i) (budget s (nodeOf s log i)) 0 (stateAt s log i .begins)
+
+  -- The next turn starts after the messages taken and the protocol slot.
+  pub next-start : (i : ℕ) → startOf s log (suc i) ≡ startOf s log i + takenIn s log i * messageTicks s + slotTicks s
+  unfolding stateAt turn nextBus
+  next-start i = refl
+
+  -- The next turn is the next node's.
+  pub next-node : (i : ℕ) → nodeOf s log (suc i) ≡ nextNode s (nodeOf s log i)
+  unfolding stateAt turn nextBus
+  next-node i = refl
+
+  -- Turn i has i turns before it.
+  pub turns-counted : (i : ℕ) → stateAt s log i .bus .turns ≡ i
+  unfolding stateAt start turn nextBus
+  turns-counted zero = refl
+  turns-counted (suc i) = omega (arith, turns-counted i)
+
+  -- There is one begin word for each release.
+  pub begins-length : (i : ℕ) → length (stateAt s log i .begins) ≡ releases log
+  unfolding stateAt start
+  begins-length zero = length-replicate (releases log) notBegun
+  begins-length (suc i) = serve-length (turn-account i) ∙ begins-length i
+
+  -- The node of a turn is one on the sheet.
+  pub node-range : 1 ≤ nodes s → (i : ℕ) → (1 ≤ nodeOf s log i) × (nodeOf s log i ≤ nodes s)
+  unfolding stateAt start
+  node-range some zero = omega arith
+  node-range some (suc i) = rw (next-node i) (next-range s (nodeOf s log i) (node-range some i .0) (node-range some i .1))
+
+  -- A later turn starts no earlier.
+  pub starts-grow : (a b : ℕ) → a ≤ b → startOf s log a ≤ startOf s log b
+  starts-grow a b h =
+      le-ind (λ m. startOf s log a ≤ startOf s log m) (le-refl (startOf s log a)) (λ m from ih. omega (arith, next-start m)) b h
+
+  module _ (slot : 1 ≤ slotTicks s) where
+    -- A later turn starts later.
+    pub starts-increase : (a b : ℕ) → a < b → startOf s log a < startOf s log b
+    starts-increase a b h = omega (arith, next-start a, starts-grow (suc a) b h)
+
+    -- Each turn takes a tick at least.
+    pub start-at-least : (i : ℕ) → i ≤ startOf s log i
+    start-at-least zero = omega arith
+    start-at-least (suc i) = omega (arith, next-start i, start-at-least i)

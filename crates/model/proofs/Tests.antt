@@ -1,0 +1,44 @@
+-- What tests say: readings of a test that joins others, and of `outside`. Assumes nothing.
+use Prim.Native.Nat.{ℕ, _≤_, _<_}
+use mathlib.Core.Path.{_≡_, refl}
+use mathlib.Core.Logic.{_↔_, _⊎_, inl, inr, ⊎-elim}
+use mathlib.Core.Bool.{Bool, true, false, _&&_, _||_, true≢false, false≢true}
+use borrow.Author.Tests.{ltb-false, le-ltb, lt-ltb}
+use lib.Dec.{ltb}
+use Rattle.model.specs.Refusal.{outside}
+
+-- "And" is true exactly where both tests are.
+pub and-reading : (a b : Bool) → (a && b ≡ true) ↔ ((a ≡ true) × (b ≡ true))
+and-reading true b = (λ e. (refl, e), λ both. both .1)
+and-reading false b = (λ e. (e, absurd (false≢true e)), λ both. both .0)
+
+-- "Or" is true exactly where one of the tests is.
+pub or-reading : (a b : Bool) → (a || b ≡ true) ↔ ((a ≡ true) ⊎ (b ≡ true))
+or-reading true b = (λ e. inl e, λ one. refl)
+or-reading false b = (λ e. inr e, λ one. ⊎-elim (λ e. absurd (false≢true e)) (λ e. e) one)
+
+-- Where neither of two tests holds, each fails.
+pub or-neither : (a b : Bool) → (a || b) ≡ false → (a ≡ false) × (b ≡ false)
+or-neither true b e = absurd (true≢false e)
+or-neither false b e = (refl, e)
+
+-- A number that is not outside is in range.
+pub within : (least most x : ℕ) → outside least most x ≡ false → (least ≤ x) × (x ≤ most)
+unfolding outside
+within least most x e =
+    let both = or-neither (ltb x least) (ltb most x) e in
+    (ltb-false x least (both .0), ltb-false most x (both .1))
+
+-- A number in range is not outside.
+pub outside-not : (least most x : ℕ) → least ≤ x → x ≤ most → outside least most x ≡ false
+unfolding outside
+outside-not least most x low high = rw (le-ltb x least low) (le-ltb most x high)
+
+-- A number below the least, or above the most, is outside.
+pub outside-low : (least most x : ℕ) → x < least → outside least most x ≡ true
+unfolding outside
+outside-low least most x h = rw (lt-ltb x least h) refl
+
+pub outside-high : (least most x : ℕ) → most < x → outside least most x ≡ true
+unfolding outside
+outside-high least most x h = or-reading (ltb x least) (ltb most x) .1 (inr (lt-ltb most x h))

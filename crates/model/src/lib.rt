@@ -1,0 +1,24 @@
+// What the planner speaks of: the answers and the bus record, and in specs/ what document 01 says of them. There is no code
+// here: the definitions in specs/ and the laws in proofs/ are what the other crates cite.
+
+// An answer: document 01's three numbers. Number 0 is success; any other is a refusal, and the two after it are its place.
+#[repr(C)]
+pub struct Answer {
+    pub number: u32,
+    pub second: u32,
+    pub third: u32,
+}
+
+// Document 01's "bus record": the tick at which the turn of a node starts, and how many turns have gone before it.
+#[repr(C)]
+pub struct Bus {
+    pub tick: u32,
+    pub node: u32,
+    pub turns: u32,
+}
+
+// What the analysis finds of one stream: it is "late", or it has a "listed wait", found at J full cycles.
+pub enum Verdict {
+    Late,
+    Listed { wait: u32, cycles: u32 },
+}

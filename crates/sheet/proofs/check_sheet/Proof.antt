@@ -1,0 +1,115 @@
+-- `sheet::check_sheet` meets its contract: each part's answer is the chain's where it refuses, and hands on to the next where it
+-- does not. What the rows gave bounds the number of streams.
+-- Assumes nothing.
+use Prim.Native.Nat.{ℕ, _≤_, _+_, _*_}
+use mathlib.Core.Path.{_≡_, refl, sym, ap, _∙_}
+use mathlib.Core.Bool.{not}
+use mathlib.Core.List.{List}
+use native.Mathlib.Nat.{le-refl, suc-ne-zero}
+use native.Mathlib.Omega.{arith}
+use borrow.Author.Needs.{needs}
+use borrow.Author.Tests.{eq-eqb, ne-eqb}
+use lib.ListN.{length}
+use Rattle.model.specs.Refusal.{refuse, refuseIf, firstOf}
+use Rattle.model.specs.Sheet.{nodes, streamsUpTo, sheetLength, rowRefusal, sheetRefusal}
+use Rattle.model.proofs.Refusals.{refused, passed, refuseIf-so, refuseIf-not, first-none}
+use Rattle.model.proofs.ValidSheet.{header-fits, row-fits}
+use Rattle.model.proofs.RunningSums.{streams-most}
+use Rattle.sheet.proofs.check_sheet.Statement.{statement}
+use Rattle.sheet.proofs.check_sheet.Tie as tie
+
+-- the streams of rows that are in range
+few : (s : List ℕ) (n : ℕ) → firstOf (rowRefusal s) 1 n .number ≡ 0 → streamsUpTo s n ≤ 16 * n
+few s n e =
+    streams-most s n
+    (λ k low high. row-fits s k (first-none (rowRefusal s) 1 n e k low (omega arith)) .streamsTo)
+    n
+    (le-refl n)
+
+check-header-requires : tie.Need-check-header-requires
+check-header-requires c κs = search needs
+
+returns : tie.Need-returns
+unfolding sheetRefusal
+returns c = refused _ (c .before .before .check-header .ensures) (c .if1 .taken)
+
+word-at-requires : tie.Need-word-at-requires
+word-at-requires c κs = search needs
+
+check-rows-requires : tie.Need-check-rows-requires
+check-rows-requires c κs =
+    let header = header-fits (c .before .before .before .before .before .args .sheet .now) (rw (c .before .before .before .check-header .ensures) at (c .before .if1 .left)) in
+    (c .word-at .ensures, omega (arith, c .word-at .ensures, header .nodesTo))
+
+returns-2 : tie.Need-returns-2
+unfolding sheetRefusal
+returns-2 c =
+    passed (c .before .before .before .before .before .before .check-header .ensures) (c .before .before .before .before .if1 .left)
+    (refused _ (rw (c .before .before .before .word-at .ensures) at (c .before .before .check-rows .ensures)) (c .if2 .taken))
+
+contents-words-requires : tie.Need-contents-words-requires
+contents-words-requires c κs = search needs
+
+streams-up-to-requires : tie.Need-streams-up-to-requires
+streams-up-to-requires c κs = search needs
+
+mul-if3 : tie.Need-mul-if3
+mul-if3 c =
+    let n = c .before .before .before .before .before .word-at .result in
+    let sum = few (c .before .before .before .before .before .before .before .before .before .before .args .sheet .now) n (rw (c .before .before .before .before .check-rows .ensures) at (c .before .before .if2 .left)) in
+    omega (arith, sum, c .streams-up-to .ensures, c .before .before .before .before .before .word-at .ok)
+
+add-if3 : tie.Need-add-if3
+add-if3 c =
+    let n = c .before .before .before .before .before .word-at .result in
+    let sum = few (c .before .before .before .before .before .before .before .before .before .before .args .sheet .now) n (rw (c .before .before .before .before .check-rows .ensures) at (c .before .before .if2 .left)) in
+    omega (arith, sum, c .streams-up-to .ensures, c .before .before .before .before .before .word-at .ok, c .before .contents-words .ensures .1)
+
+returns-3 : tie.Need-returns-3
+unfolding sheetRefusal
+returns-3 c =
+    let s = (c .before .before .before .before .before .before .before .before .before .before .before .args .sheet .now) in
+    let n = c .before .before .before .before .before .before .word-at .ensures in
+    let sum = rw n at (c .before .streams-up-to .ensures) in
+    let end : c .before .before .contents-words .result + 2 * c .before .streams-up-to .result ≡ sheetLength s =
+    omega (arith, sum, c .before .before .contents-words .ensures .0) in
+    passed (c .before .before .before .before .before .before .before .before .before .check-header .ensures) (c .before .before .before .before .before .before .before .if1 .left)
+    (passed (rw n at (c .before .before .before .before .before .check-rows .ensures)) (c .before .before .before .if2 .left)
+    (refused _
+    (sym (refuseIf-so (refuse 4 0 0) (ap not (ne-eqb (length s) (sheetLength s) (λ e. c .if3 .taken (e ∙ sym end))))))
+    (λ z. suc-ne-zero 3 z)))
+
+check-bodies-requires : tie.Need-check-bodies-requires
+check-bodies-requires c κs = search needs
+
+returns-4 : tie.Need-returns-4
+unfolding sheetRefusal
+returns-4 c =
+    let s = (c .before .before .before .before .before .before .before .before .before .before .before .before .args .sheet .now) in
+    let n = c .before .before .before .before .before .before .before .word-at .ensures in
+    let sum = rw n at (c .before .before .streams-up-to .ensures) in
+    let end : c .before .before .before .contents-words .result + 2 * c .before .before .streams-up-to .result ≡ sheetLength s =
+    omega (arith, sum, c .before .before .before .contents-words .ensures .0) in
+    passed (c .before .before .before .before .before .before .before .before .before .before .check-header .ensures) (c .before .before .before .before .before .before .before .before .if1 .left)
+    (passed (rw n at (c .before .before .before .before .before .before .check-rows .ensures)) (c .before .before .before .before .if2 .left)
+    (passed
+    (sym (refuseIf-not (refuse 4 0 0) (ap not (eq-eqb (length s) (sheetLength s) (c .before .if3 .left ∙ end)))))
+    refl
+    (rw n at (c .check-bodies .ensures))))
+
+pub check-sheet-spec : {M : Type 1} → statement M
+check-sheet-spec =
+    tie.close
+    (tie.spec
+    check-header-requires
+    returns
+    word-at-requires
+    check-rows-requires
+    returns-2
+    contents-words-requires
+    streams-up-to-requires
+    mul-if3
+    add-if3
+    returns-3
+    check-bodies-requires
+    returns-4)

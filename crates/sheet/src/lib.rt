@@ -1,0 +1,208 @@
+// The sheet reader: refusals 1 to 5 with their places, for any words.
+ghost use mathlib.Core.Path.{_≡_};
+ghost use Prim.Native.Nat.{_≤_};
+ghost use Rattle.model.specs.Limits.{maxNodes};
+ghost use Rattle.model.specs.Refusal.{outside, firstOf};
+ghost use Rattle.model.specs.Sheet.{word, nodes, bodyPlace, rowWrong, rowRefusal, streamWrong, streamRefusal, bodyRefusal, headerRefusal, sheetRefusal};
+use model::Answer;
+
+// A word of the sheet out of range.
+fn word_outside(sheet: &[u32], i: usize, least: u32, most: u32) -> bool
+    ensures { λ r. ⌜ r ≡ outside least most (word (now (sheet .entry)) i) ⌝ }
+{
+    layout::is_outside(least, most, layout::word_at(sheet, i))
+}
+
+// Refusals 1 to 3, and 4 for contents that are cut short.
+fn check_header(sheet: &[u32]) -> Answer
+    ensures { λ r. ⌜ r ≡ headerRefusal (now (sheet .entry)) ⌝ }
+{
+    if sheet.len() < 3 {
+        return Answer {
+            number: 1,
+            second: 0,
+            third: 0,
+        };
+    }
+    if word_outside(sheet, 0, 1, 16) {
+        return Answer {
+            number: 2,
+            second: 0,
+            third: 0,
+        };
+    }
+    if word_outside(sheet, 1, 1, 10000) {
+        return Answer {
+            number: 3,
+            second: 0,
+            third: 0,
+        };
+    }
+    if word_outside(sheet, 2, 1, 10000) {
+        return Answer {
+            number: 3,
+            second: 0,
+            third: 0,
+        };
+    }
+    if sheet.len() < layout::contents_words(sheet) {
+        return Answer {
+            number: 4,
+            second: 0,
+            third: 0,
+        };
+    }
+    Answer {
+        number: 0,
+        second: 0,
+        third: 0,
+    }
+}
+
+// A wrong place, stream count or budget in node k's row, where the body must stand at `at`.
+fn row_is_wrong(sheet: &[u32], k: u32, at: usize) -> bool
+    requires { ⌜ at ≡ bodyPlace (now sheet) k ⌝ }
+    ensures { λ r. ⌜ r ≡ rowWrong (now (sheet .entry)) k ⌝ }
+{
+    if layout::wide(layout::place_of(sheet, k)) != at {
+        return true;
+    }
+    if 16 < layout::stream_count(sheet, k) {
+        return true;
+    }
+    layout::is_outside(1, 16, layout::budget_of(sheet, k))
+}
+
+// Refusal 4 of node k's row.
+fn check_row(sheet: &[u32], k: u32, at: usize) -> Answer
+    requires { ⌜ at ≡ bodyPlace (now sheet) k ⌝ }
+    ensures { λ r. ⌜ r ≡ rowRefusal (now (sheet .entry)) k ⌝ }
+{
+    if row_is_wrong(sheet, k, at) {
+        Answer {
+            number: 4,
+            second: k,
+            third: 0,
+        }
+    } else {
+        Answer {
+            number: 0,
+            second: 0,
+            third: 0,
+        }
+    }
+}
+
+// Refusal 4 of the rows of nodes 1 to n.
+fn check_rows(sheet: &[u32], n: u32) -> Answer
+    requires { ⌜ (n ≡ nodes (now sheet)) × (n ≤ maxNodes) ⌝ }
+    ensures { λ r. ⌜ r ≡ firstOf (rowRefusal (now (sheet .entry))) 1 n ⌝ }
+{
+    let mut at = layout::contents_words(sheet);
+    let mut i: u32 = 0;
+    while i < n {
+        let row = check_row(sheet, i + 1, at);
+        if row.number != 0 {
+            return row;
+        }
+        at += 2 * layout::wide(layout::stream_count(sheet, i + 1));
+        i += 1;
+    }
+    Answer {
+        number: 0,
+        second: 0,
+        third: 0,
+    }
+}
+
+// A period or deadline out of range.
+fn stream_is_wrong(sheet: &[u32], k: u32, j: u32) -> bool
+    ensures { λ r. ⌜ r ≡ streamWrong (now (sheet .entry)) k j ⌝ }
+{
+    let period = layout::period_of(sheet, k, j);
+    if layout::is_outside(1, 1000000000, period) {
+        return true;
+    }
+    layout::is_outside(1, period, layout::deadline_of(sheet, k, j))
+}
+
+// Refusal 5 of stream j of node k.
+fn check_stream(sheet: &[u32], k: u32, j: u32) -> Answer
+    ensures { λ r. ⌜ r ≡ streamRefusal (now (sheet .entry)) k j ⌝ }
+{
+    if stream_is_wrong(sheet, k, j) {
+        Answer {
+            number: 5,
+            second: k,
+            third: j,
+        }
+    } else {
+        Answer {
+            number: 0,
+            second: 0,
+            third: 0,
+        }
+    }
+}
+
+// Refusal 5 of node k's streams.
+fn check_body(sheet: &[u32], k: u32) -> Answer
+    ensures { λ r. ⌜ r ≡ bodyRefusal (now (sheet .entry)) k ⌝ }
+{
+    let count = layout::stream_count(sheet, k);
+    let mut i: u32 = 0;
+    while i < count {
+        let stream = check_stream(sheet, k, i + 1);
+        if stream.number != 0 {
+            return stream;
+        }
+        i += 1;
+    }
+    Answer {
+        number: 0,
+        second: 0,
+        third: 0,
+    }
+}
+
+// Refusal 5 of the streams of nodes 1 to n.
+fn check_bodies(sheet: &[u32], n: u32) -> Answer
+    ensures { λ r. ⌜ r ≡ firstOf (bodyRefusal (now (sheet .entry))) 1 n ⌝ }
+{
+    let mut i: u32 = 0;
+    while i < n {
+        let body = check_body(sheet, i + 1);
+        if body.number != 0 {
+            return body;
+        }
+        i += 1;
+    }
+    Answer {
+        number: 0,
+        second: 0,
+        third: 0,
+    }
+}
+
+// Refusals 1 to 5 of a sheet, or 0, 0, 0 for a valid one.
+pub fn check_sheet(sheet: &[u32]) -> Answer
+    ensures { λ r. ⌜ r ≡ sheetRefusal (now (sheet .entry)) ⌝ }
+{
+    let header = check_header(sheet);
+    if header.number != 0 {
+        return header;
+    }
+    let n = layout::word_at(sheet, 0);
+    let rows = check_rows(sheet, n);
+    if rows.number != 0 {
+        return rows;
+    }
+    if sheet.len() != layout::contents_words(sheet) + 2 * layout::streams_up_to(sheet, n) {
+        return Answer {
+            number: 4,
+            second: 0,
+            third: 0,
+        };
+    }
+    check_bodies(sheet, n)
+}

@@ -1,0 +1,147 @@
+//! The listed wait of a stream, and the two entries that answer it.
+
+use crate::sheet::{Bus, MOST_STREAMS, MOST_STREAMS_A_NODE};
+use crate::{refusal, success, Answer};
+
+#[derive(Clone, Copy)]
+pub(crate) struct Listed {
+    pub wait: u64,
+    /// J of document 01: how many full cycles the window spans.
+    pub cycles: u64,
+}
+
+/// How far one stream of higher priority has come in the growing window:
+/// its whole periods are in the sum, the rest is kept here. This makes a try
+/// of J an addition a stream instead of a division.
+#[derive(Clone, Copy, Default)]
+struct Progress {
+    period: u64,
+    /// Window length modulo the period.
+    rest: u64,
+    /// Full cycle modulo the period.
+    rest_a_cycle: u64,
+}
+
+/// The sum H over the streams of higher priority, for the window J × C − 1.
+struct Interference {
+    releases: u64,
+    /// Whole periods that every further cycle adds, all streams together.
+    whole_a_cycle: u64,
+    streams: [Progress; MOST_STREAMS_A_NODE],
+    count: usize,
+}
+
+impl Interference {
+    /// For the first window, C − 1.
+    fn first(bus: &Bus, stream: usize, cycle: u64) -> Interference {
+        let mut sum = Interference {
+            releases: 0,
+            whole_a_cycle: 0,
+            streams: [Progress::default(); MOST_STREAMS_A_NODE],
+            count: 0,
+        };
+        let node = &bus.nodes()[bus.streams()[stream].node];
+        for other in node.first..node.first + node.count {
+            if bus.priority(other) < bus.priority(stream) {
+                sum.add(u64::from(bus.streams()[other].period), cycle);
+            }
+        }
+        sum
+    }
+
+    fn add(&mut self, period: u64, cycle: u64) {
+        // The 1 counts a release at the very first tick of the window.
+        self.releases += 1 + (cycle - 1) / period;
+        self.whole_a_cycle += cycle / period;
+        self.streams[self.count] = Progress {
+            period,
+            rest: (cycle - 1) % period,
+            rest_a_cycle: cycle % period,
+        };
+        self.count += 1;
+    }
+
+    /// From the window J × C − 1 to (J + 1) × C − 1.
+    fn advance(&mut self) {
+        self.releases += self.whole_a_cycle;
+        for stream in &mut self.streams[..self.count] {
+            stream.rest += stream.rest_a_cycle;
+            if stream.rest >= stream.period {
+                stream.rest -= stream.period;
+                self.releases += 1;
+            }
+        }
+    }
+}
+
+/// The last J worth a try. The listed wait of J is at least J × C − 1, because
+/// x is never negative: for J = 1 it is H itself, and for a later least J the
+/// one before failed, so H was (J − 1) × m or more there and has not fallen.
+/// Hence a J with J × C − 1 + TMS above the deadline makes the stream late,
+/// and so does every greater one, just as no J at all does.
+pub(crate) fn last_try(bus: &Bus, stream: usize) -> u64 {
+    let deadline = u64::from(bus.streams()[stream].deadline);
+    (deadline + 1).saturating_sub(bus.message_ticks) / bus.cycle()
+}
+
+/// Tries J from 1 to `last`, one by one, and takes the least that serves;
+/// the deadline plays no part here.
+pub(crate) fn least_cycles(bus: &Bus, stream: usize, last: u64) -> Option<Listed> {
+    let cycle = bus.cycle();
+    let budget = bus.nodes()[bus.streams()[stream].node].budget as u64;
+    let mut sum = Interference::first(bus, stream, cycle);
+    for cycles in 1..=last {
+        if sum.releases < cycles * budget {
+            let ahead = sum.releases - (cycles - 1) * budget;
+            let wait = cycles * cycle - 1 + ahead * bus.message_ticks;
+            return Some(Listed { wait, cycles });
+        }
+        sum.advance();
+    }
+    None
+}
+
+/// None for a late stream, which has no listed wait.
+pub(crate) fn listed(bus: &Bus, stream: usize) -> Option<Listed> {
+    let deadline = u64::from(bus.streams()[stream].deadline);
+    least_cycles(bus, stream, last_try(bus, stream))
+        .filter(|found| found.wait + bus.message_ticks <= deadline)
+}
+
+/// The listed wait and J of one stream; `stream` is its number in the node.
+pub fn one_stream(sheet: &[u32], node: u32, stream: u32) -> Answer {
+    let bus = match Bus::read(sheet) {
+        Ok(bus) => bus,
+        Err(answer) => return answer,
+    };
+    let Some(index) = bus.find(node, stream) else {
+        return refusal(8, node, stream);
+    };
+    match listed(&bus, index) {
+        Some(found) => success(found.wait, found.cycles),
+        None => refusal(7, node, stream),
+    }
+}
+
+/// Writes the listed waits of all streams, or refuses and writes none.
+pub fn admit(sheet: &[u32], room: &mut [u32]) -> Answer {
+    let bus = match Bus::read(sheet) {
+        Ok(bus) => bus,
+        Err(answer) => return answer,
+    };
+    let count = bus.streams().len();
+    if room.len() < count {
+        return refusal(6, 0, 0);
+    }
+    // Kept apart until all are known: a late stream leaves the room untouched.
+    let mut waits = [0u32; MOST_STREAMS];
+    for (stream, wait) in waits[..count].iter_mut().enumerate() {
+        let Some(found) = listed(&bus, stream) else {
+            let (node, number) = bus.place(stream);
+            return refusal(7, node, number);
+        };
+        *wait = found.wait as u32;
+    }
+    room[..count].copy_from_slice(&waits[..count]);
+    success(count as u64, bus.cycle())
+}

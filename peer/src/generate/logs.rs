@@ -1,0 +1,142 @@
+//! Logs of many kinds.
+
+use super::random::Random;
+use crate::log::MOST_RELEASES;
+use crate::sheet::{Bus, LAST_TICK};
+
+/// Tick and running stream number.
+type Release = (u32, u32);
+
+/// What a log is made for.
+pub(super) struct Traffic<'a> {
+    /// None if the sheet is refused.
+    pub bus: Option<&'a Bus>,
+    pub streams: u32,
+    /// The releases come before this tick, by and large.
+    pub span: u64,
+}
+
+impl Traffic<'_> {
+    fn any_stream(&self, random: &mut Random) -> u32 {
+        random.between(1, u64::from(self.streams.max(1))) as u32
+    }
+
+    fn any_tick(&self, random: &mut Random) -> u32 {
+        random.below(self.span.max(1)).min(u64::from(LAST_TICK)) as u32
+    }
+
+    /// Length of a message and of a cycle.
+    fn pace(&self) -> (u64, u64) {
+        self.bus
+            .map_or((5, 17), |bus| (bus.message_ticks, bus.cycle()))
+    }
+}
+
+fn scattered(random: &mut Random, traffic: &Traffic, releases: u64) -> Vec<Release> {
+    (0..releases)
+        .map(|_| (traffic.any_tick(random), traffic.any_stream(random)))
+        .collect()
+}
+
+/// More at one tick than a turn can take.
+fn bursts(random: &mut Random, traffic: &Traffic) -> Vec<Release> {
+    let mut releases = Vec::new();
+    for _ in 0..random.between(1, 4) {
+        let tick = traffic.any_tick(random) / random.pick(&[1, 2, 1_000]);
+        let stream = traffic.any_stream(random);
+        let mixed = random.percent(50);
+        for _ in 0..random.between(2, 40) {
+            let other = traffic.any_stream(random);
+            releases.push((tick, if mixed { other } else { stream }));
+        }
+    }
+    releases
+}
+
+/// Close together from the start, so that many come while a turn goes on.
+fn during_turns(random: &mut Random, traffic: &Traffic) -> Vec<Release> {
+    let (message, cycle) = traffic.pace();
+    let mut tick = random.below(cycle.min(traffic.span.max(1)));
+    let mut releases = Vec::new();
+    for _ in 0..random.between(2, 60) {
+        releases.push((tick as u32, traffic.any_stream(random)));
+        tick += match random.below(4) {
+            0 => 0,
+            1 => 1,
+            _ => random.below(message + 1),
+        };
+    }
+    releases
+}
+
+/// Every stream keeps its period.
+fn periodic(random: &mut Random, traffic: &Traffic) -> Vec<Release> {
+    let mut releases = Vec::new();
+    let Some(bus) = traffic.bus else {
+        return scattered(random, traffic, 10);
+    };
+    let most = 400 / bus.streams().len().max(1) + 2;
+    let together = random.percent(40);
+    for (index, stream) in bus.streams().iter().enumerate() {
+        let period = u64::from(stream.period);
+        let mut tick = match together {
+            true => 0,
+            false => random.below(period.min(traffic.span.max(1))),
+        };
+        for _ in 0..most {
+            if tick >= traffic.span {
+                break;
+            }
+            releases.push((tick as u32, index as u32 + 1));
+            let late = random.pick(&[0, 0, 1, period / 3]);
+            tick += period + random.below(late + 1);
+        }
+    }
+    releases
+}
+
+/// Streams that keep their periods next to one that does not.
+fn disturbed(random: &mut Random, traffic: &Traffic) -> Vec<Release> {
+    let mut releases = periodic(random, traffic);
+    let stream = traffic.any_stream(random);
+    let tick = traffic.any_tick(random) / 4;
+    releases.extend((0..random.between(2, 30)).map(|_| (tick, stream)));
+    releases
+}
+
+fn releases(random: &mut Random, traffic: &Traffic) -> Vec<Release> {
+    let most = MOST_RELEASES as u64;
+    match random.weighted(&[60, 180, 180, 200, 200, 160, 8, 8, 4]) {
+        0 => Vec::new(),
+        1 => {
+            let count = random.between(1, 40);
+            scattered(random, traffic, count)
+        }
+        2 => bursts(random, traffic),
+        3 => during_turns(random, traffic),
+        4 => periodic(random, traffic),
+        5 => disturbed(random, traffic),
+        6 => scattered(random, traffic, most),
+        7 => scattered(random, traffic, most + 1),
+        _ => vec![(LAST_TICK, traffic.any_stream(random)); 3],
+    }
+}
+
+/// A log with nothing wrong, except that it may have one release too many,
+/// and that no stream is right for a sheet without streams.
+pub(super) fn ordered_log(random: &mut Random, traffic: &Traffic) -> Vec<u32> {
+    let nobody = traffic.streams == 0 && random.percent(90);
+    let mut releases = match nobody {
+        true => Vec::new(),
+        false => releases(random, traffic),
+    };
+    // Stable, so that releases at one tick stay in their random order.
+    releases.sort_by_key(|release| release.0);
+    if random.percent(3) {
+        if let Some(last) = releases.last_mut() {
+            last.0 = LAST_TICK;
+        }
+    }
+    let words = releases.iter().flat_map(|&(tick, stream)| [tick, stream]);
+    words.collect()
+}

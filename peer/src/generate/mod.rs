@@ -1,0 +1,197 @@
+//! Cases for comparing two programs: generated ones, each of which can be run
+//! again by its seed and index, and named ones for the far ends.
+
+mod faults;
+mod logs;
+mod named;
+mod random;
+mod sheets;
+
+use crate::sheet::{Bus, LAST_TICK};
+use crate::{Record, NOT_BEGUN};
+use faults::{damage_log, damage_sheet};
+use logs::{ordered_log, Traffic};
+use random::Random;
+
+pub use named::named;
+pub(crate) use sheets::total_tries;
+
+/// A generated replay starts no more turns.
+pub const MOST_TURNS: u64 = 100_000;
+/// All streams of a generated sheet together try no more J. A little under
+/// 10^5, for programs that look at one J more before they give up.
+pub const MOST_TRIES: u64 = 99_000;
+
+/// Everything that one round of all entries takes.
+#[derive(Clone, PartialEq, Eq, Debug)]
+pub struct Case {
+    pub sheet: Vec<u32>,
+    pub log: Vec<u32>,
+    pub horizon: u32,
+    /// The one-stream question: node and stream within the node.
+    pub node: u32,
+    pub stream: u32,
+    /// For the single step, with `step_room`.
+    pub record: Record,
+    /// For admit and replay.
+    pub room: Vec<u32>,
+    pub step_room: Vec<u32>,
+}
+
+/// The same for the same seed and index, whatever other cases are made.
+pub fn case(seed: u64, index: u64) -> Case {
+    let random = &mut Random::new(seed, index);
+    let (mut sheet, tries) = sheets::valid_sheet(random);
+    damage_sheet(random, &mut sheet);
+    sheets::limit_tries(&mut sheet, tries);
+    let bus = Bus::read(&sheet).ok();
+    let traffic = traffic(random, bus.as_ref());
+    let mut log = ordered_log(random, &traffic);
+    damage_log(random, &mut log, traffic.streams);
+    let releases = log.len().div_ceil(2);
+    let horizon = horizon(random, &traffic);
+    let (node, stream) = question(random, bus.as_ref());
+    let record = record(random, &traffic, &log);
+    let room = room(random, traffic.streams as usize, releases);
+    let step_room = step_room(random, releases);
+    Case {
+        sheet,
+        log,
+        horizon,
+        node,
+        stream,
+        record,
+        room,
+        step_room,
+    }
+}
+
+/// The longest horizon that keeps to the limit: a turn takes a slot or more.
+fn longest_horizon(bus: Option<&Bus>, turns: u64) -> u64 {
+    let slot = bus.map_or(1, |bus| bus.slot_ticks);
+    (slot * turns).min(u64::from(LAST_TICK))
+}
+
+fn traffic<'a>(random: &mut Random, bus: Option<&'a Bus>) -> Traffic<'a> {
+    let turns = [100, 1_000, 5_000, 30_000, MOST_TURNS];
+    let longest = longest_horizon(bus, turns[random.weighted(&[40, 35, 18, 5, 2])]);
+    let span = match random.percent(60) {
+        true => longest,
+        false => random.between(1, longest),
+    };
+    let streams = match bus {
+        Some(bus) => bus.streams().len() as u32,
+        None => random.between(1, 10) as u32,
+    };
+    Traffic { bus, streams, span }
+}
+
+fn horizon(random: &mut Random, traffic: &Traffic) -> u32 {
+    let cycle = traffic.bus.map_or(17, Bus::cycle);
+    let longest = longest_horizon(traffic.bus, MOST_TURNS);
+    let ticks = match random.weighted(&[3, 10, 80, 3, 2, 1, 1]) {
+        0 => 0,
+        1 => random.between(1, cycle).min(longest),
+        2 => traffic.span,
+        3 => u64::from(LAST_TICK).min(longest),
+        4 => u64::from(LAST_TICK) + 1,
+        5 => u64::from(u32::MAX),
+        _ => random.between(u64::from(LAST_TICK) + 1, u64::from(u32::MAX)),
+    };
+    ticks as u32
+}
+
+/// Mostly a stream that there is, and of two the one with the longer period,
+/// which is more likely to wait for more than one cycle.
+fn question(random: &mut Random, bus: Option<&Bus>) -> (u32, u32) {
+    let odd = [0, 1, 2, 16, 17, 18, 4_096, u32::MAX - 1, u32::MAX];
+    let streams = bus.map_or(&[][..], |bus| bus.streams());
+    let Some(bus) = bus.filter(|_| !streams.is_empty()) else {
+        return (random.pick(&odd), random.pick(&odd));
+    };
+    let one = random.below(streams.len() as u64) as usize;
+    let first = bus.nodes()[streams[one].node].first as u64;
+    let count = bus.nodes()[streams[one].node].count as u64;
+    let other = (first + random.below(count)) as usize;
+    let (node, stream) = bus.place(std::cmp::max_by_key(one, other, |&s| bus.priority(s)));
+    match random.weighted(&[88, 3, 3, 3, 3]) {
+        0 => (node, stream),
+        1 => (random.pick(&odd), stream),
+        2 => (node, random.pick(&odd)),
+        3 => (node, count as u32 + 1),
+        _ => (bus.nodes().len() as u32 + 1, stream),
+    }
+}
+
+fn record(random: &mut Random, traffic: &Traffic, log: &[u32]) -> Record {
+    let nodes = traffic.bus.map_or(3, |bus| bus.nodes().len()) as u32;
+    let release = random.below(log.len() as u64 / 2) as usize;
+    let tick = match log.get(2 * release) {
+        Some(&tick) if random.percent(70) => tick.saturating_add(random.below(20) as u32),
+        _ => random.below(traffic.span + 1) as u32,
+    };
+    let sender = log.get(2 * release + 1).and_then(|&stream| {
+        let streams = traffic.bus?.streams();
+        streams.get((stream as usize).checked_sub(1)?)
+    });
+    let node = match sender {
+        Some(stream) if random.percent(75) => stream.node as u32 + 1,
+        _ => random.between(1, u64::from(nodes)) as u32,
+    };
+    let mut record = Record {
+        tick: tick.min(LAST_TICK),
+        node,
+        turns: random.below(1_000_000) as u32,
+    };
+    let far = [0, LAST_TICK, LAST_TICK, LAST_TICK + 1, u32::MAX];
+    match random.weighted(&[80, 6, 6, 6, 2]) {
+        0 => {}
+        1 => record.tick = random.pick(&far),
+        2 => record.turns = random.pick(&far),
+        3 => record.node = random.pick(&[0, 1, nodes, nodes + 1, 17, u32::MAX]),
+        _ => {
+            record.tick = random.pick(&far);
+            record.turns = random.pick(&far);
+            record.node = random.pick(&[0, 1, nodes, nodes + 1, u32::MAX]);
+        }
+    }
+    record
+}
+
+fn any_word(random: &mut Random) -> u32 {
+    match random.below(4) {
+        0 => random.below(100) as u32,
+        1 => NOT_BEGUN - 1,
+        2 => random.pick(&[0, LAST_TICK, NOT_BEGUN]),
+        _ => random.word(),
+    }
+}
+
+fn room(random: &mut Random, streams: usize, releases: usize) -> Vec<u32> {
+    let both = streams.max(releases);
+    let length = match random.weighted(&[50, 12, 12, 8, 8, 7, 3]) {
+        0 => both + random.below(4) as usize,
+        1 => streams,
+        2 => releases,
+        3 => streams.saturating_sub(1),
+        4 => releases.saturating_sub(1),
+        5 => random.below(both as u64 + 1) as usize,
+        _ => 0,
+    };
+    (0..length).map(|_| any_word(random)).collect()
+}
+
+fn step_room(random: &mut Random, releases: usize) -> Vec<u32> {
+    let length = match random.weighted(&[60, 25, 8, 4, 3]) {
+        0 => releases,
+        1 => releases + random.between(1, 5) as usize,
+        2 => releases.saturating_sub(1),
+        3 => random.below(releases as u64 + 1) as usize,
+        _ => 0,
+    };
+    let word = |random: &mut Random| match random.percent(50) {
+        true => NOT_BEGUN,
+        false => any_word(random),
+    };
+    (0..length).map(|_| word(random)).collect()
+}

@@ -1,0 +1,232 @@
+//! Named cases: the far ends of every range, and a few that go beyond the
+//! limits which the generated ones keep to.
+
+use super::sheets::{NodePlan, Plan};
+use super::Case;
+use crate::sheet::LAST_TICK;
+use crate::{Record, NOT_BEGUN};
+
+type Named = (&'static str, Case);
+
+/// Two nodes, three streams, a cycle of 17 ticks.
+const SMALL: [u32; 15] = [2, 5, 1, 9, 2, 1, 13, 1, 2, 40, 40, 60, 60, 30, 30];
+
+fn fresh() -> Record {
+    Record {
+        tick: 0,
+        node: 1,
+        turns: 0,
+    }
+}
+
+/// Rooms are long enough for whatever the sheet and log hold.
+fn plain(sheet: Vec<u32>, log: Vec<u32>, horizon: u32) -> Case {
+    let words = 256.max(log.len().div_ceil(2));
+    Case {
+        sheet,
+        log,
+        horizon,
+        node: 1,
+        stream: 1,
+        record: fresh(),
+        room: vec![7; words],
+        step_room: vec![NOT_BEGUN; words],
+    }
+}
+
+fn asking(mut case: Case, node: u32, stream: u32) -> Case {
+    case.node = node;
+    case.stream = stream;
+    case
+}
+
+fn one_node(message: u32, slot: u32, budget: u32, streams: &[(u32, u32)]) -> Vec<u32> {
+    let streams = streams.to_vec();
+    let nodes = vec![NodePlan { budget, streams }];
+    Plan {
+        message,
+        slot,
+        nodes,
+    }
+    .words()
+}
+
+fn sixteen(message: u32, slot: u32, budget: u32, streams: &[(u32, u32)]) -> Vec<u32> {
+    let node = || NodePlan {
+        budget,
+        streams: streams.to_vec(),
+    };
+    let nodes = (0..16).map(|_| node()).collect();
+    Plan {
+        message,
+        slot,
+        nodes,
+    }
+    .words()
+}
+
+fn releases(count: usize, release: impl Fn(u32) -> [u32; 2]) -> Vec<u32> {
+    (0..count as u32).flat_map(release).collect()
+}
+
+/// More turns than a generated replay has.
+fn many_turns() -> Vec<Named> {
+    let end_log = vec![0, 1, 999_999_990, 3, LAST_TICK, 2];
+    vec![
+        (
+            "ten million silent turns",
+            plain(SMALL.to_vec(), vec![], 10_000_000),
+        ),
+        (
+            "a thousand million silent turns",
+            plain(SMALL.to_vec(), vec![], LAST_TICK),
+        ),
+        (
+            "a release after ten million turns",
+            plain(SMALL.to_vec(), vec![9_999_990, 3], 10_000_000),
+        ),
+        (
+            "releases up to the last tick",
+            plain(sixteen(10_000, 9_999, 16, &[(5, 5)]), end_log, LAST_TICK),
+        ),
+    ]
+}
+
+/// More tries of J than a generated sheet takes. The budget is 1 and the cycle
+/// 2 ticks, so the streams above need 2 / period of it each.
+fn many_tries() -> Vec<Named> {
+    let last = |above: &[(u32, u32)], deadline: u32| {
+        let streams = [above, &[(LAST_TICK, deadline)]].concat();
+        let number = streams.len() as u32;
+        let sheet = one_node(1, 1, 1, &streams);
+        asking(plain(sheet, vec![0, number], 1_000), 1, number)
+    };
+    // 2/3 + 2/7 + 2/43 + 2/1807 is just under 1, and with 2/3263443 more it
+    // still is, by next to nothing.
+    let above = [(3, 3), (7, 7), (43, 43), (1_807, 1_807), (3_263_443, 9)];
+    vec![
+        (
+            "found after millions of tries",
+            last(&above[..4], LAST_TICK),
+        ),
+        ("a J far past the deadline", last(&above, 100_000_000)),
+        ("no J at all", last(&[(2, 2)], 200_000_000)),
+    ]
+}
+
+fn demand_past_32_bits() -> Vec<Named> {
+    // 15 × 2,000 × 143,166 is 2^32 + 12,704.
+    let mut streams = vec![(1, 1); 15];
+    streams.push((LAST_TICK, LAST_TICK));
+    let sheet = one_node(8_900, 766, 16, &streams);
+    let full = asking(plain(sheet, vec![], 1_000_000), 1, 16);
+    streams.rotate_right(1);
+    let first = plain(one_node(8_900, 766, 16, &streams), vec![0, 1], 1_000_000);
+    vec![
+        ("demand passes 32 bits, last stream", full),
+        ("demand passes 32 bits, first stream", first),
+    ]
+}
+
+fn large_sheets() -> Vec<Named> {
+    let far = [(LAST_TICK, LAST_TICK); 16];
+    let spread = releases(4_096, |release| [release / 256, release % 256 + 1]);
+    let busy = plain(sixteen(10_000, 10_000, 16, &far), spread, LAST_TICK);
+    let mut ends = [(LAST_TICK, 1); 16];
+    ends[0] = (1, 1);
+    vec![
+        ("sixteen nodes of sixteen, all largest", busy),
+        (
+            "sixteen nodes of sixteen, all smallest",
+            plain(sixteen(1, 1, 1, &[(1, 1); 16]), vec![0, 256], 10_000),
+        ),
+        (
+            "sixteen nodes of sixteen, mixed ends",
+            asking(plain(sixteen(1, 10_000, 16, &ends), vec![], 1), 16, 16),
+        ),
+        (
+            "sixteen nodes without streams",
+            plain(sixteen(1, 1, 1, &[]), vec![], 1_000_000),
+        ),
+        (
+            "a sheet of a hundred thousand words",
+            plain([&SMALL[..], &[30; 100_000]].concat(), vec![], 1),
+        ),
+    ]
+}
+
+fn large_logs() -> Vec<Named> {
+    let slow = one_node(10_000, 10_000, 16, &[(1, 1), (1, 1)]);
+    let at_once = releases(4_096, |release| [0, release % 2 + 1]);
+    let last_tick = releases(4_096, |_| [LAST_TICK, 1]);
+    let too_many = releases(4_097, |_| [0, 1]);
+    let mut odd_and_too_many = too_many.clone();
+    odd_and_too_many.push(0);
+    let mut late_fault = at_once.clone();
+    late_fault[8_191] = 3;
+    let mut far_record = plain(slow.clone(), at_once.clone(), LAST_TICK);
+    far_record.record = Record {
+        tick: LAST_TICK,
+        node: 1,
+        turns: LAST_TICK,
+    };
+    vec![
+        ("4096 releases at once", far_record),
+        (
+            "4096 releases at the last tick",
+            plain(slow.clone(), last_tick, LAST_TICK),
+        ),
+        ("4097 releases", plain(slow.clone(), too_many, 10)),
+        (
+            "odd and too long a log",
+            plain(slow.clone(), odd_and_too_many, 10),
+        ),
+        ("fault in release 4096", plain(slow, late_fault, 10)),
+    ]
+}
+
+fn refused() -> Vec<Named> {
+    let mut empty = plain(vec![], vec![], 0);
+    empty.room.clear();
+    empty.step_room.clear();
+    let mut greatest = plain(SMALL.to_vec(), vec![0, 1], u32::MAX);
+    greatest.record = Record {
+        tick: u32::MAX,
+        node: u32::MAX,
+        turns: u32::MAX,
+    };
+    let mut wrong_empty_body = sixteen(1, 1, 1, &[]);
+    wrong_empty_body[3 + 3 * 15] += 1;
+    let words = vec![u32::MAX; 600];
+    vec![
+        ("nothing at all", empty),
+        (
+            "every word the greatest",
+            asking(plain(words.clone(), words, u32::MAX), u32::MAX, u32::MAX),
+        ),
+        (
+            "greatest record, question and horizon",
+            asking(greatest, u32::MAX, u32::MAX),
+        ),
+        (
+            "empty body at a wrong place",
+            plain(wrong_empty_body, vec![], 5),
+        ),
+        (
+            "both late, the first of lower priority",
+            plain(vec![1, 5, 1, 6, 2, 1, 100, 6, 9, 9], vec![0, 1, 0, 2], 50),
+        ),
+    ]
+}
+
+pub fn named() -> Vec<Named> {
+    [
+        many_turns(),
+        many_tries(),
+        demand_past_32_bits(),
+        large_sheets(),
+        large_logs(),
+        refused(),
+    ]
+    .concat()
+}

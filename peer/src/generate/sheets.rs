@@ -1,0 +1,298 @@
+//! Valid sheets of many kinds.
+
+use super::random::Random;
+use super::MOST_TRIES;
+use crate::admission::{last_try, least_cycles};
+use crate::sheet::{Bus, LAST_TICK};
+
+pub(super) struct NodePlan {
+    pub budget: u32,
+    /// Period and deadline.
+    pub streams: Vec<(u32, u32)>,
+}
+
+pub(super) struct Plan {
+    pub message: u32,
+    pub slot: u32,
+    pub nodes: Vec<NodePlan>,
+}
+
+impl Plan {
+    pub fn cycle(&self) -> u64 {
+        let budgets: u64 = self.nodes.iter().map(|node| u64::from(node.budget)).sum();
+        budgets * u64::from(self.message) + self.nodes.len() as u64 * u64::from(self.slot)
+    }
+
+    pub fn words(&self) -> Vec<u32> {
+        let mut words = vec![self.nodes.len() as u32, self.message, self.slot];
+        let mut place = 3 + 3 * self.nodes.len() as u32;
+        for node in &self.nodes {
+            let count = node.streams.len() as u32;
+            words.extend([place, count, node.budget]);
+            place += 2 * count;
+        }
+        for &(period, deadline) in self.nodes.iter().flat_map(|node| &node.streams) {
+            words.extend([period, deadline]);
+        }
+        words
+    }
+}
+
+/// The nearest period or deadline in range.
+fn bounded(ticks: u64) -> u32 {
+    ticks.clamp(1, u64::from(LAST_TICK)) as u32
+}
+
+fn slot_length(random: &mut Random) -> u32 {
+    match random.weighted(&[70, 15, 15]) {
+        0 => random.between(1, 12) as u32,
+        1 => random.between(1, 10_000) as u32,
+        _ => random.pick(&[1, 2, 9_999, 10_000]),
+    }
+}
+
+fn node_count(random: &mut Random) -> u64 {
+    match random.weighted(&[20, 45, 30, 5]) {
+        0 => 1,
+        1 => random.between(2, 4),
+        2 => random.between(5, 15),
+        _ => 16,
+    }
+}
+
+/// Everything but the periods and deadlines, which stay 0 for now.
+fn shape(random: &mut Random) -> Plan {
+    let crowding = random.weighted(&[50, 25, 4, 3, 18]);
+    let budgets = random.weighted(&[35, 35, 25, 5]);
+    let mut nodes = Vec::new();
+    for _ in 0..node_count(random) {
+        let count = match crowding {
+            0 => random.between(0, 3),
+            1 => random.between(0, 16),
+            2 => 16,
+            3 => 0,
+            _ => random.between(1, 6),
+        };
+        let budget = match budgets {
+            0 => random.pick(&[1, 1, 1, 2]),
+            1 => random.between(1, 4),
+            2 => random.between(1, 16),
+            _ => 16,
+        };
+        nodes.push(NodePlan {
+            budget: budget as u32,
+            streams: vec![(0, 0); count as usize],
+        });
+    }
+    Plan {
+        message: slot_length(random),
+        slot: slot_length(random),
+        nodes,
+    }
+}
+
+/// If every stream of the node has at least this period, each releases only
+/// once while the lowest of them waits, and that wait ends within the period.
+fn roomy_period(node: &NodePlan, cycle: u64) -> u64 {
+    let cycles = node.streams.len() as u64 / u64::from(node.budget) + 1;
+    (cycles + 1) * cycle
+}
+
+/// Long periods and deadlines that are met.
+fn fill_roomy(plan: &mut Plan, random: &mut Random) {
+    let cycle = plan.cycle();
+    let any_deadline = random.percent(15);
+    for node in &mut plan.nodes {
+        let least = roomy_period(node, cycle);
+        for stream in &mut node.streams {
+            let factor = random.pick(&[1, 2, 5, 30]);
+            let period = bounded(least + random.below(least * factor));
+            let deadline = match random.weighted(&[50, 50]) {
+                0 => u64::from(period),
+                _ if any_deadline => random.between(1, u64::from(period)),
+                _ => random.between(least.min(u64::from(period)), u64::from(period)),
+            };
+            *stream = (period, bounded(deadline));
+        }
+    }
+}
+
+/// The same few periods again and again, so that the stream number decides.
+fn fill_tied(plan: &mut Plan, random: &mut Random) {
+    let cycle = plan.cycle();
+    let nodes = plan.nodes.iter();
+    let roomy = nodes
+        .map(|node| roomy_period(node, cycle))
+        .max()
+        .unwrap_or(1);
+    let first = roomy + random.below(roomy * 3);
+    let periods = [first, first, first + random.below(2), roomy];
+    for stream in plan.nodes.iter_mut().flat_map(|node| &mut node.streams) {
+        let period = bounded(random.pick(&periods));
+        let lowest = roomy.min(u64::from(period));
+        *stream = (period, random.between(lowest, u64::from(period)) as u32);
+    }
+}
+
+/// Demand about as high as the budgets, so that waits span several cycles
+/// and every second sheet or so has a late stream.
+fn fill_tight(plan: &mut Plan, random: &mut Random) {
+    let cycle = plan.cycle();
+    let share = random.between(60, 400);
+    for node in &mut plan.nodes {
+        let fair = cycle * node.streams.len().max(1) as u64 / u64::from(node.budget);
+        for stream in &mut node.streams {
+            let slack = random.between(60, 60 + share);
+            let period = bounded(cycle + fair * slack / 100 + random.below(cycle));
+            *stream = (period, period);
+        }
+        if let Some(last) = node.streams.last_mut() {
+            let period = bounded(fair * random.between(2, 40) + cycle * 4);
+            *last = (period, period);
+        }
+    }
+}
+
+/// Periods next to whole numbers of cycles or parts of them, where a release
+/// at the last tick of the window counts or just does not.
+fn fill_edges(plan: &mut Plan, random: &mut Random) {
+    let cycle = plan.cycle();
+    for node in &mut plan.nodes {
+        for stream in &mut node.streams {
+            let near = (random.between(1, 6) * cycle + 1).saturating_sub(random.below(4));
+            let period = bounded(near / random.pick(&[1, 1, 1, 2, 3]));
+            *stream = (period, period);
+        }
+        let count = node.streams.len() as u64;
+        if let Some(last) = node.streams.last_mut() {
+            let period = bounded(cycle * (4 * count + random.below(40)));
+            *last = (period, period);
+        }
+    }
+}
+
+/// A higher stream a little slower than one budget a cycle: the stream below
+/// it has to wait for about cycle / gap cycles.
+fn fill_long_search(plan: &mut Plan, random: &mut Random) {
+    plan.nodes.truncate(2);
+    fill_roomy(plan, random);
+    let node = plan.nodes.len() - 1;
+    plan.nodes[node].budget = 1;
+    plan.message = plan.message.min(3);
+    plan.slot = random.between(1, 3_000) as u32;
+    let cycle = plan.cycle();
+    let least = u64::from(plan.message);
+    let widest = least.max(cycle / random.pick(&[4, 20, 200]));
+    let gap = random.between(least, widest);
+    let above = bounded(cycle + gap);
+    let below = bounded(cycle * (cycle / gap + 4) * random.between(1, 3));
+    plan.nodes[node].streams = vec![(above, above), (below, below)];
+    if random.percent(50) {
+        plan.nodes[node].streams.swap(0, 1);
+    }
+}
+
+fn extreme_ticks(random: &mut Random, most: u32) -> u32 {
+    let ticks = match random.weighted(&[20, 20, 20, 40]) {
+        0 => random.pick(&[1, 1, 2, 3]),
+        1 => u64::from(most),
+        2 => u64::from(most).saturating_sub(random.below(3)),
+        _ => random.next() >> random.between(34, 62),
+    };
+    ticks.clamp(1, u64::from(most)) as u32
+}
+
+/// The ends of the ranges and everything between, with no thought for waits.
+fn fill_extreme(plan: &mut Plan, random: &mut Random) {
+    for stream in plan.nodes.iter_mut().flat_map(|node| &mut node.streams) {
+        let period = extreme_ticks(random, LAST_TICK);
+        *stream = (period, extreme_ticks(random, period));
+    }
+}
+
+/// So many releases above one stream that their sum passes 32 bits while its
+/// deadline is far off: a sum that wraps would find room for it.
+fn fill_overload(plan: &mut Plan, random: &mut Random) {
+    let cycles = random.between(1_800, 20_000);
+    // 15 × cycles × cycle just past 2^32, by less than 16 × cycles.
+    let cycle = (1u64 << 32).div_ceil(15).div_ceil(cycles);
+    let least = cycle.saturating_sub(10_000).div_ceil(16).max(1);
+    plan.message = random.between(least, (cycle - 1) / 16) as u32;
+    plan.slot = (cycle - 16 * u64::from(plan.message)).min(10_000) as u32;
+    let period = bounded(u64::from(LAST_TICK) - random.below(1_000));
+    let mut streams = vec![(1, 1); 15];
+    streams.insert(random.pick(&[0, 15]), (period, period));
+    let budget = 16;
+    plan.nodes = vec![NodePlan { budget, streams }];
+}
+
+/// Brings one deadline to the edge: its listed wait just in time or not.
+fn sharpen_deadline(sheet: &mut [u32], random: &mut Random) {
+    let Ok(bus) = Bus::read(sheet) else { return };
+    if bus.streams().is_empty() {
+        return;
+    }
+    let stream = random.below(bus.streams().len() as u64) as usize;
+    let Some(found) = least_cycles(&bus, stream, 2_000) else {
+        return;
+    };
+    let edge = (found.wait + bus.message_ticks + 1).saturating_sub(random.below(3));
+    if edge >= 1 && edge <= u64::from(bus.streams()[stream].period) {
+        let bodies = sheet.len() - 2 * bus.streams().len();
+        sheet[bodies + 2 * stream + 1] = edge as u32;
+    }
+}
+
+/// A valid sheet and how many tries of J are fair for it.
+pub(super) fn valid_sheet(random: &mut Random) -> (Vec<u32>, u64) {
+    let mut plan = shape(random);
+    // Few of the others are worth a long search for a stream that is late.
+    let mut tries = [1_000, 10_000, MOST_TRIES][random.weighted(&[5, 2, 1])];
+    match random.weighted(&[43, 12, 13, 8, 12, 2, 10]) {
+        0 => fill_roomy(&mut plan, random),
+        1 => fill_tied(&mut plan, random),
+        2 => fill_tight(&mut plan, random),
+        3 => {
+            fill_long_search(&mut plan, random);
+            tries = MOST_TRIES;
+        }
+        4 => fill_extreme(&mut plan, random),
+        6 => fill_edges(&mut plan, random),
+        _ => {
+            fill_overload(&mut plan, random);
+            tries = MOST_TRIES;
+        }
+    }
+    let mut sheet = plan.words();
+    if random.percent(20) {
+        sharpen_deadline(&mut sheet, random);
+    }
+    (sheet, tries)
+}
+
+/// How many J all streams of a sheet together try, up to about `most`.
+pub(crate) fn total_tries(bus: &Bus, most: u64) -> u64 {
+    let mut total = 0;
+    for stream in 0..bus.streams().len() {
+        let last = last_try(bus, stream).min(most.saturating_add(1));
+        total += least_cycles(bus, stream, last).map_or(last, |found| found.cycles);
+        if total > most {
+            break;
+        }
+    }
+    total
+}
+
+/// Shortens the deadlines of a valid sheet that would take too many tries.
+pub(super) fn limit_tries(sheet: &mut [u32], most: u64) {
+    let Ok(bus) = Bus::read(sheet) else { return };
+    if total_tries(&bus, most) <= most {
+        return;
+    }
+    let streams = bus.streams().len();
+    let latest = bounded(most / streams as u64 * bus.cycle());
+    let bodies = sheet.len() - 2 * streams;
+    for stream in sheet[bodies..].chunks_exact_mut(2) {
+        stream[1] = stream[1].min(latest);
+    }
+}

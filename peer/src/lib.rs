@@ -1,0 +1,57 @@
+//! The independent second program: written from document 01 alone, so that
+//! the proved program can be compared with it. It shares no code and, where
+//! there is a choice, no method with that program.
+//!
+//! Every entry is total: whatever is handed in gets an answer, and a refusal
+//! changes no lent word.
+
+mod admission;
+pub mod generate;
+mod log;
+mod replay;
+mod sheet;
+pub mod stats;
+mod step;
+pub mod text;
+
+pub use admission::{admit, one_stream};
+pub use replay::replay;
+pub use sheet::check_sheet;
+pub use step::step;
+
+/// The word in a room of begin ticks that stands for a message not begun.
+pub const NOT_BEGUN: u32 = 4294967295;
+
+/// The three numbers of an answer. Number 0 is success.
+#[derive(Clone, Copy, PartialEq, Eq, Debug)]
+pub struct Answer {
+    pub number: u32,
+    pub second: u32,
+    pub third: u32,
+}
+
+/// Where the bus stands between two turns.
+#[derive(Clone, Copy, PartialEq, Eq, Debug)]
+pub struct Record {
+    pub tick: u32,
+    pub node: u32,
+    pub turns: u32,
+}
+
+/// Every number that is answered fits 32 bits: ticks stay below 10^9 + 170,000
+/// and listed waits, cycles and turns below that.
+pub(crate) fn success(second: u64, third: u64) -> Answer {
+    Answer {
+        number: 0,
+        second: second as u32,
+        third: third as u32,
+    }
+}
+
+pub(crate) fn refusal(number: u32, second: u32, third: u32) -> Answer {
+    Answer {
+        number,
+        second,
+        third,
+    }
+}

@@ -1,0 +1,165 @@
+//! Reading a sheet into fixed tables, with refusals 1 to 5.
+
+use crate::{refusal, success, Answer};
+
+pub(crate) const MOST_NODES: usize = 16;
+pub(crate) const MOST_STREAMS_A_NODE: usize = 16;
+pub(crate) const MOST_STREAMS: usize = MOST_NODES * MOST_STREAMS_A_NODE;
+pub(crate) const MOST_BUDGET: usize = 16;
+/// Longest message or protocol slot.
+pub(crate) const LONGEST_SLOT: u32 = 10_000;
+/// Longest period, latest release, latest horizon and latest record tick.
+pub(crate) const LAST_TICK: u32 = 1_000_000_000;
+
+const HEADER_WORDS: usize = 3;
+const ROW_WORDS: usize = 3;
+const STREAM_WORDS: usize = 2;
+
+#[derive(Clone, Copy, Default)]
+pub(crate) struct Stream {
+    /// Index of its node, from 0.
+    pub node: usize,
+    pub period: u32,
+    pub deadline: u32,
+}
+
+#[derive(Clone, Copy, Default)]
+pub(crate) struct Node {
+    /// Index of its first stream in the table of all streams.
+    pub first: usize,
+    pub count: usize,
+    pub budget: usize,
+}
+
+/// A valid sheet, read. Indices are from 0; answers count from 1.
+pub(crate) struct Bus {
+    pub message_ticks: u64,
+    pub slot_ticks: u64,
+    node_count: usize,
+    stream_count: usize,
+    nodes: [Node; MOST_NODES],
+    streams: [Stream; MOST_STREAMS],
+}
+
+/// Refusals 1 to 5 with their place, or 0 0 0 for a valid sheet.
+pub fn check_sheet(sheet: &[u32]) -> Answer {
+    match Bus::read(sheet) {
+        Ok(_) => success(0, 0),
+        Err(answer) => answer,
+    }
+}
+
+impl Bus {
+    pub fn read(sheet: &[u32]) -> Result<Bus, Answer> {
+        let mut bus = Bus::read_header(sheet)?;
+        let end = bus.read_contents(sheet)?;
+        if sheet.len() != end {
+            return Err(refusal(4, 0, 0));
+        }
+        bus.read_bodies(sheet)?;
+        Ok(bus)
+    }
+
+    fn read_header(sheet: &[u32]) -> Result<Bus, Answer> {
+        let &[nodes, message, slot, ..] = sheet else {
+            return Err(refusal(1, 0, 0));
+        };
+        if nodes < 1 || nodes > MOST_NODES as u32 {
+            return Err(refusal(2, 0, 0));
+        }
+        let allowed = 1..=LONGEST_SLOT;
+        if !allowed.contains(&message) || !allowed.contains(&slot) {
+            return Err(refusal(3, 0, 0));
+        }
+        Ok(Bus {
+            message_ticks: u64::from(message),
+            slot_ticks: u64::from(slot),
+            node_count: nodes as usize,
+            stream_count: 0,
+            nodes: [Node::default(); MOST_NODES],
+            streams: [Stream::default(); MOST_STREAMS],
+        })
+    }
+
+    /// Reads the row of each node and answers where the last body ends.
+    fn read_contents(&mut self, sheet: &[u32]) -> Result<usize, Answer> {
+        let mut end = HEADER_WORDS + ROW_WORDS * self.node_count;
+        if sheet.len() < end {
+            return Err(refusal(4, 0, 0));
+        }
+        for node in 0..self.node_count {
+            let row = &sheet[HEADER_WORDS + ROW_WORDS * node..][..ROW_WORDS];
+            let place_right = row[0] == end as u32;
+            let count_right = row[1] <= MOST_STREAMS_A_NODE as u32;
+            let budget_right = row[2] >= 1 && row[2] <= MOST_BUDGET as u32;
+            if !(place_right && count_right && budget_right) {
+                return Err(refusal(4, node as u32 + 1, 0));
+            }
+            self.nodes[node] = Node {
+                first: self.stream_count,
+                count: row[1] as usize,
+                budget: row[2] as usize,
+            };
+            self.stream_count += row[1] as usize;
+            end += STREAM_WORDS * row[1] as usize;
+        }
+        Ok(end)
+    }
+
+    fn read_bodies(&mut self, sheet: &[u32]) -> Result<(), Answer> {
+        // The bodies have no gaps, so they are one run of pairs.
+        let bodies = &sheet[HEADER_WORDS + ROW_WORDS * self.node_count..];
+        for node in 0..self.node_count {
+            let Node { first, count, .. } = self.nodes[node];
+            for number in 0..count {
+                let stream = first + number;
+                let period = bodies[STREAM_WORDS * stream];
+                let deadline = bodies[STREAM_WORDS * stream + 1];
+                let period_right = (1..=LAST_TICK).contains(&period);
+                if !period_right || deadline < 1 || deadline > period {
+                    return Err(refusal(5, node as u32 + 1, number as u32 + 1));
+                }
+                self.streams[stream] = Stream {
+                    node,
+                    period,
+                    deadline,
+                };
+            }
+        }
+        Ok(())
+    }
+
+    pub fn nodes(&self) -> &[Node] {
+        &self.nodes[..self.node_count]
+    }
+
+    pub fn streams(&self) -> &[Stream] {
+        &self.streams[..self.stream_count]
+    }
+
+    /// The full cycle: every node sends its whole budget.
+    pub fn cycle(&self) -> u64 {
+        let budgets: u64 = self.nodes().iter().map(|node| node.budget as u64).sum();
+        budgets * self.message_ticks + self.node_count as u64 * self.slot_ticks
+    }
+
+    /// Smaller means served first. Only meant within one node, where the
+    /// order of the table is the order of the stream numbers.
+    pub fn priority(&self, stream: usize) -> (u32, usize) {
+        (self.streams[stream].period, stream)
+    }
+
+    /// Node and stream within the node, both from 1.
+    pub fn place(&self, stream: usize) -> (u32, u32) {
+        let node = self.streams[stream].node;
+        let number = stream - self.nodes[node].first;
+        (node as u32 + 1, number as u32 + 1)
+    }
+
+    /// The table index of the stream with this node and number, if there is one.
+    pub fn find(&self, node: u32, number: u32) -> Option<usize> {
+        let node = self.nodes().get((node as usize).checked_sub(1)?)?;
+        let number = (number as usize).checked_sub(1)?;
+        (number < node.count).then_some(node.first + number)
+    }
+}

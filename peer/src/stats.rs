@@ -1,0 +1,313 @@
+//! How generated cases spread over the answers and over their causes. The
+//! causes are read off the words here, apart from the code that refuses.
+
+use std::collections::BTreeMap;
+use std::fmt;
+
+use crate::admission::last_try;
+use crate::generate::{case, total_tries, Case};
+use crate::sheet::{Bus, LAST_TICK};
+use crate::{admit, check_sheet, one_stream, replay, step, Answer, NOT_BEGUN};
+
+/// Counts by name, one line each when written out.
+#[derive(Default)]
+pub struct Figures {
+    counts: BTreeMap<String, u64>,
+}
+
+impl Figures {
+    /// 0 for what never happened.
+    pub fn count(&self, name: &str) -> u64 {
+        self.counts.get(name).copied().unwrap_or(0)
+    }
+
+    fn add(&mut self, name: String) {
+        *self.counts.entry(name).or_insert(0) += 1;
+    }
+
+    fn total(&mut self, name: &str, amount: u64) {
+        *self.counts.entry(name.to_string()).or_insert(0) += amount;
+    }
+
+    fn highest(&mut self, name: &str, amount: u64) {
+        let entry = self.counts.entry(name.to_string()).or_insert(0);
+        *entry = (*entry).max(amount);
+    }
+}
+
+impl fmt::Display for Figures {
+    fn fmt(&self, out: &mut fmt::Formatter) -> fmt::Result {
+        for (name, count) in &self.counts {
+            writeln!(out, "{name}: {count}")?;
+        }
+        Ok(())
+    }
+}
+
+pub fn gather(seed: u64, count: u64) -> Figures {
+    let mut figures = Figures::default();
+    for index in 0..count {
+        let case = case(seed, index);
+        figures.total("cases", 1);
+        count_sheet(&mut figures, &case);
+        count_question(&mut figures, &case);
+        count_rooms(&mut figures, &case);
+        count_admit(&mut figures, &case);
+        count_replay(&mut figures, &case);
+        count_step(&mut figures, &case);
+    }
+    figures
+}
+
+/// Which of the three words of a row are wrong.
+fn row_cause(sheet: &[u32], node: usize) -> &'static str {
+    let row = |node: usize| &sheet[3 * node..3 * node + 3];
+    let before: u32 = (1..node).map(|node| 2 * row(node)[1]).sum();
+    let place = row(node)[0] != 3 + 3 * sheet[0] + before;
+    let count = row(node)[1] > 16;
+    let budget = row(node)[2] < 1 || row(node)[2] > 16;
+    match (place, count, budget) {
+        (true, false, false) => "place",
+        (false, true, false) => "stream count",
+        (false, false, true) if row(node)[2] == 0 => "budget low",
+        (false, false, true) => "budget high",
+        _ => "several words of a row",
+    }
+}
+
+fn length_cause(sheet: &[u32]) -> &'static str {
+    let contents = 3 + 3 * sheet[0] as usize;
+    if sheet.len() < contents {
+        return "short contents";
+    }
+    let rows = sheet[3..contents].chunks_exact(3);
+    let end = contents + rows.map(|row| 2 * row[1] as usize).sum::<usize>();
+    match sheet.len() < end {
+        true => "bodies too short",
+        false => "bodies too long",
+    }
+}
+
+fn stream_cause(sheet: &[u32], node: usize, stream: usize) -> &'static str {
+    let place = sheet[3 * node] as usize + 2 * (stream - 1);
+    match (sheet[place], sheet[place + 1]) {
+        (0, _) => "period low",
+        (period, _) if period > LAST_TICK => "period high",
+        (_, 0) => "deadline low",
+        _ => "deadline above period",
+    }
+}
+
+fn header_cause(word: u32) -> &'static str {
+    match word {
+        0 => "low",
+        _ => "high",
+    }
+}
+
+fn sheet_cause(sheet: &[u32], answer: Answer) -> String {
+    let (node, stream) = (answer.second as usize, answer.third as usize);
+    match answer.number {
+        1 => format!("1 with {} words", sheet.len()),
+        2 => format!("2 {}", header_cause(sheet[0])),
+        3 if (1..=10_000).contains(&sheet[1]) => format!("3 slot {}", header_cause(sheet[2])),
+        3 => format!("3 message {}", header_cause(sheet[1])),
+        4 if node == 0 => format!("4 {}", length_cause(sheet)),
+        4 => format!("4 {}", row_cause(sheet, node)),
+        5 => format!("5 {}", stream_cause(sheet, node, stream)),
+        other => format!("{other} unexpected"),
+    }
+}
+
+fn count_sheet(figures: &mut Figures, case: &Case) {
+    let answer = check_sheet(&case.sheet);
+    if answer.number != 0 {
+        figures.add(format!("sheet {}", sheet_cause(&case.sheet, answer)));
+        return;
+    }
+    figures.total("sheet valid", 1);
+    figures.add(format!("sheet of {:2} nodes", case.sheet[0]));
+    for row in case.sheet[3..].chunks_exact(3).take(case.sheet[0] as usize) {
+        figures.add(format!("node of {:2} streams", row[1]));
+    }
+    if has_ties(&case.sheet) {
+        figures.total("sheet with equal periods in a node", 1);
+    }
+    if demand_is_wide(&case.sheet) {
+        figures.total("sheet with a sum past 32 bits", 1);
+    }
+    let answer = admit(&case.sheet, &mut [0; 256]);
+    if answer.number == 0 {
+        figures.total("sheet admitted", 1);
+        if answer.second > 0 {
+            figures.total("sheet admitted with streams", 1);
+        }
+    }
+}
+
+/// Whether some search sums up more releases than 32 bits hold.
+fn demand_is_wide(sheet: &[u32]) -> bool {
+    let Ok(bus) = Bus::read(sheet) else {
+        return false;
+    };
+    let releases = |stream: usize| {
+        let window = last_try(&bus, stream) * bus.cycle();
+        let node = &bus.nodes()[bus.streams()[stream].node];
+        let others = node.first..node.first + node.count;
+        others
+            .filter(|&other| bus.priority(other) < bus.priority(stream))
+            .map(|other| window.div_ceil(u64::from(bus.streams()[other].period)))
+            .sum::<u64>()
+    };
+    (0..bus.streams().len()).any(|stream| releases(stream) > u64::from(u32::MAX))
+}
+
+fn has_ties(sheet: &[u32]) -> bool {
+    let rows = sheet[3..].chunks_exact(3).take(sheet[0] as usize);
+    rows.into_iter().any(|row| {
+        let body = sheet[row[0] as usize..].chunks_exact(2);
+        let mut periods: Vec<u32> = body.take(row[1] as usize).map(|pair| pair[0]).collect();
+        periods.sort_unstable();
+        periods.windows(2).any(|two| two[0] == two[1])
+    })
+}
+
+fn question_cause(case: &Case) -> &'static str {
+    if case.node == 0 || case.node > case.sheet[0] {
+        return match case.node {
+            0 => "node 0",
+            _ => "node too large",
+        };
+    }
+    match case.stream {
+        0 => "stream 0",
+        _ => "stream too large",
+    }
+}
+
+fn count_question(figures: &mut Figures, case: &Case) {
+    let answer = one_stream(&case.sheet, case.node, case.stream);
+    match answer.number {
+        0 => {
+            let cycles = match answer.third {
+                1 => "1",
+                2 => "2",
+                3..=9 => "3 to 9",
+                10..=999 => "10 to 999",
+                _ => "1000 or more",
+            };
+            figures.add(format!("one stream 0, J {cycles}"));
+            figures.total("one stream 0, J 2 or more", u64::from(answer.third >= 2));
+        }
+        8 => figures.add(format!("one stream 8 {}", question_cause(case))),
+        number => figures.add(format!("one stream {number}")),
+    }
+}
+
+/// How long a room is for what an entry wants to write.
+fn room_kind(words: usize, needed: usize) -> &'static str {
+    match words {
+        0 => "empty",
+        _ if words < needed => "short",
+        _ if words == needed => "exact",
+        _ => "longer",
+    }
+}
+
+fn count_rooms(figures: &mut Figures, case: &Case) {
+    let Ok(bus) = Bus::read(&case.sheet) else {
+        return;
+    };
+    let (streams, releases) = (bus.streams().len(), case.log.len() / 2);
+    let (room, step_room) = (case.room.len(), case.step_room.len());
+    figures.add(format!("room of admit {}", room_kind(room, streams)));
+    figures.add(format!("room of replay {}", room_kind(room, releases)));
+    figures.add(format!("room of step {}", room_kind(step_room, releases)));
+}
+
+fn count_admit(figures: &mut Figures, case: &Case) {
+    let answer = admit(&case.sheet, &mut case.room.clone());
+    figures.add(format!("admit {}", answer.number));
+    if let Ok(bus) = Bus::read(&case.sheet) {
+        let tries = total_tries(&bus, u64::MAX);
+        figures.highest("most tries of a sheet", tries);
+        figures.total("tries of all sheets", tries);
+    }
+}
+
+fn log_cause(log: &[u32], answer: Answer) -> &'static str {
+    if answer.third == 0 {
+        return match log.len() % 2 {
+            0 => "too many releases",
+            _ => "odd length",
+        };
+    }
+    let at = 2 * (answer.third as usize - 1);
+    match (log[at], log[at + 1]) {
+        (tick, _) if tick > LAST_TICK => "tick too large",
+        (tick, _) if at > 0 && tick < log[at - 2] => "falling tick",
+        (_, 0) => "stream 0",
+        _ => "stream too large",
+    }
+}
+
+fn count_replay(figures: &mut Figures, case: &Case) {
+    let mut room = case.room.clone();
+    let answer = replay(&case.sheet, &case.log, case.horizon, &mut room);
+    match answer.number {
+        0 => {
+            let releases = case.log.len() / 2;
+            let begun = room[..releases].iter().filter(|&&word| word != NOT_BEGUN);
+            figures.add("replay 0".to_string());
+            figures.total("releases replayed", releases as u64);
+            figures.total("releases begun", begun.count() as u64);
+            figures.total("turns of all replays", u64::from(answer.second));
+            figures.highest("most turns of a replay", u64::from(answer.second));
+            figures.total("replay 0, empty log", u64::from(releases == 0));
+            figures.total("replay 0, 4096 releases", u64::from(releases == 4096));
+            figures.total("replay 0, horizon 0", u64::from(case.horizon == 0));
+            figures.total(
+                "replay 0, horizon 10^9",
+                u64::from(case.horizon == LAST_TICK),
+            );
+        }
+        9 => figures.add(format!("replay 9 {}", log_cause(&case.log, answer))),
+        number => figures.add(format!("replay {number}")),
+    }
+}
+
+fn record_cause(case: &Case) -> &'static str {
+    let tick = case.record.tick > LAST_TICK;
+    let turns = case.record.turns > LAST_TICK;
+    let node = case.record.node == 0 || case.record.node > case.sheet[0];
+    match (tick, turns, node) {
+        (true, false, false) => "tick",
+        (false, true, false) => "turns",
+        (false, false, true) if case.record.node == 0 => "node 0",
+        (false, false, true) => "node too large",
+        _ => "several",
+    }
+}
+
+fn count_step(figures: &mut Figures, case: &Case) {
+    let mut record = case.record;
+    let answer = step(
+        &case.sheet,
+        &case.log,
+        &mut record,
+        &mut case.step_room.clone(),
+    );
+    match answer.number {
+        0 => {
+            let taken = match answer.second {
+                0 => "0",
+                1 => "1",
+                _ => "2 or more",
+            };
+            figures.add(format!("step 0, taken {taken}"));
+        }
+        9 => figures.add(format!("step 9 {}", log_cause(&case.log, answer))),
+        16 => figures.add(format!("step 16 {}", record_cause(case))),
+        number => figures.add(format!("step {number}")),
+    }
+}

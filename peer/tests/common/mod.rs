@@ -1,0 +1,93 @@
+//! Shared by the tests; each test file uses a part of it.
+#![allow(dead_code)]
+
+use peer::{admit, one_stream, replay, Answer};
+
+pub const NOT_BEGUN: u32 = peer::NOT_BEGUN;
+
+/// Sheet A of document 01: a cycle of 17 ticks.
+pub const SHEET_A: [u32; 15] = [2, 5, 1, 9, 2, 1, 13, 1, 2, 40, 40, 60, 60, 30, 30];
+/// The sheet of P7.
+pub const SHEET_P7: [u32; 10] = [1, 5, 1, 6, 2, 1, 10, 10, 100, 100];
+
+/// A word that no entry writes in the tests that use it.
+pub const OLD: u32 = 777_777_777;
+
+pub fn answer(number: u32, second: u32, third: u32) -> Answer {
+    Answer {
+        number,
+        second,
+        third,
+    }
+}
+
+/// Sheet A with some words changed.
+pub fn sheet_a_with(changes: &[(usize, u32)]) -> Vec<u32> {
+    with(&SHEET_A, changes)
+}
+
+pub fn with(words: &[u32], changes: &[(usize, u32)]) -> Vec<u32> {
+    let mut words = words.to_vec();
+    for &(place, word) in changes {
+        words[place] = word;
+    }
+    words
+}
+
+/// Builds a valid layout from budgets and streams.
+pub fn sheet(message: u32, slot: u32, nodes: &[(u32, &[(u32, u32)])]) -> Vec<u32> {
+    let mut words = vec![nodes.len() as u32, message, slot];
+    let mut place = 3 + 3 * nodes.len() as u32;
+    for (budget, streams) in nodes {
+        words.extend([place, streams.len() as u32, *budget]);
+        place += 2 * streams.len() as u32;
+    }
+    for (_, streams) in nodes {
+        for &(period, deadline) in *streams {
+            words.extend([period, deadline]);
+        }
+    }
+    words
+}
+
+/// Admits into a room with two words to spare; those two must stay.
+pub fn admitted(sheet: &[u32], streams: usize) -> (Answer, Vec<u32>) {
+    let mut room = vec![OLD; streams + 2];
+    let given = admit(sheet, &mut room);
+    assert_eq!(room[streams..], [OLD, OLD], "words past the waits");
+    room.truncate(streams);
+    (given, room)
+}
+
+/// Asserts the answer and that no word of a large room changed.
+pub fn assert_admit_refused(sheet: &[u32], expected: Answer) {
+    let mut room = [OLD; 300];
+    assert_eq!(admit(sheet, &mut room), expected);
+    assert_eq!(room, [OLD; 300], "a refusal changes no word");
+}
+
+/// Replays into a room with two words to spare; those two must stay.
+pub fn replayed(sheet: &[u32], log: &[u32], horizon: u32) -> (Answer, Vec<u32>) {
+    let releases = log.len() / 2;
+    let mut room = vec![OLD; releases + 2];
+    let given = replay(sheet, log, horizon, &mut room);
+    assert_eq!(room[releases..], [OLD, OLD], "words past the releases");
+    room.truncate(releases);
+    (given, room)
+}
+
+pub fn assert_replay_refused(sheet: &[u32], log: &[u32], horizon: u32, expected: Answer) {
+    let mut room = [OLD; 5_000];
+    assert_eq!(replay(sheet, log, horizon, &mut room), expected);
+    assert_eq!(room, [OLD; 5_000], "a refusal changes no word");
+}
+
+pub fn listed_wait(sheet: &[u32], node: u32, stream: u32) -> u32 {
+    let given = one_stream(sheet, node, stream);
+    assert_eq!(given.number, 0, "{given:?}");
+    given.second
+}
+
+pub fn bytes(words: &[u32]) -> Vec<u8> {
+    words.iter().flat_map(|word| word.to_le_bytes()).collect()
+}

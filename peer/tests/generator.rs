@@ -1,0 +1,220 @@
+//! The generated cases: the same each time, within their limits, and spread
+//! over all answers and causes.
+
+mod common;
+
+use common::*;
+use peer::generate::{case, named, MOST_TRIES, MOST_TURNS};
+use peer::stats::gather;
+use peer::{admit, one_stream, replay, step};
+
+#[test]
+fn a_case_depends_on_seed_and_index_alone() {
+    let first: Vec<_> = (0..50).map(|index| case(5, index)).collect();
+    for index in (0..50).rev() {
+        assert_eq!(case(5, index as u64), first[index]);
+    }
+    let other = (0..50).filter(|&index| case(6, index) == first[index as usize]);
+    assert!(other.count() < 5);
+    let shifted = (0..49).filter(|&index| first[index] == first[index + 1]);
+    assert!(shifted.count() < 5);
+}
+
+/// Shares of 5,000 cases, a good deal below what is usual.
+#[test]
+fn cases_spread_over_all_answers() {
+    let figures = gather(2, 5_000);
+    let least = |names: &[&str], share: u64| {
+        for name in names {
+            let count = figures.count(name);
+            assert!(count >= share, "{name}: {count} of at least {share}");
+        }
+    };
+    least(&["sheet admitted with streams"], 1_250);
+    least(&["one stream 0, J 1", "one stream 0, J 2 or more"], 500);
+    least(&["one stream 0, J 10 to 999", "one stream 7"], 50);
+    for entry in ["admit", "one stream", "replay", "step"] {
+        for number in 1..=5 {
+            least(&[&format!("{entry} {number}")], 20);
+        }
+    }
+    least(&["admit 0", "admit 6", "admit 7"], 200);
+    least(&["replay 0", "replay 6", "step 6"], 200);
+    least(&["step 0, taken 0", "step 0, taken 1"], 200);
+    least(&["step 0, taken 2 or more"], 200);
+    least(&["replay 10", "step 16 tick", "step 16 turns"], 20);
+    least(&["step 16 node 0", "step 16 node too large"], 10);
+    least(&["one stream 8 node 0", "one stream 8 stream 0"], 5);
+    least(&["one stream 8 node too large"], 20);
+    least(&["one stream 8 stream too large"], 20);
+    least(&["replay 0, empty log", "replay 0, horizon 0"], 10);
+    least(&["replay 0, 4096 releases"], 3);
+    least(
+        &["replay 0, horizon 10^9", "sheet with a sum past 32 bits"],
+        1,
+    );
+    least(&["sheet with equal periods in a node"], 200);
+    for entry in ["admit", "replay", "step"] {
+        for length in ["empty", "short", "exact", "longer"] {
+            least(&[&format!("room of {entry} {length}")], 50);
+        }
+    }
+}
+
+const LOG_CAUSES: [&str; 6] = [
+    "odd length",
+    "too many releases",
+    "tick too large",
+    "falling tick",
+    "stream 0",
+    "stream too large",
+];
+
+const SHEET_CAUSES: [&str; 20] = [
+    "1 with 0 words",
+    "1 with 1 words",
+    "1 with 2 words",
+    "2 low",
+    "2 high",
+    "3 message low",
+    "3 message high",
+    "3 slot low",
+    "3 slot high",
+    "4 short contents",
+    "4 place",
+    "4 stream count",
+    "4 budget low",
+    "4 budget high",
+    "4 bodies too short",
+    "4 bodies too long",
+    "5 period low",
+    "5 period high",
+    "5 deadline low",
+    "5 deadline above period",
+];
+
+#[test]
+fn cases_spread_over_all_causes() {
+    let figures = gather(3, 5_000);
+    let logs = LOG_CAUSES.map(|cause| [format!("replay 9 {cause}"), format!("step 9 {cause}")]);
+    let sheets = SHEET_CAUSES.map(|cause| format!("sheet {cause}"));
+    let nodes = (1..=16).map(|nodes| format!("sheet of {nodes:2} nodes"));
+    let streams = (0..=16).map(|streams| format!("node of {streams:2} streams"));
+    let names = logs.into_iter().flatten().chain(sheets);
+    for name in names.chain(nodes).chain(streams) {
+        let count = figures.count(&name);
+        assert!(count >= 5, "{name}: {count}");
+    }
+}
+
+#[test]
+fn cases_keep_to_their_limits() {
+    let figures = gather(4, 5_000);
+    let turns = figures.count("most turns of a replay");
+    let tries = figures.count("most tries of a sheet");
+    assert!((50_000..=MOST_TURNS).contains(&turns), "{turns}");
+    assert!((50_000..=MOST_TRIES).contains(&tries), "{tries}");
+}
+
+#[test]
+fn refusals_leave_generated_rooms_and_records() {
+    let mut refused = 0;
+    for index in 0..3_000 {
+        let case = case(7, index);
+        let mut room = case.room.clone();
+        if admit(&case.sheet, &mut room).number != 0 {
+            assert_eq!(room, case.room, "admit {index}");
+            refused += 1;
+        }
+        let mut room = case.room.clone();
+        if replay(&case.sheet, &case.log, case.horizon, &mut room).number != 0 {
+            assert_eq!(room, case.room, "replay {index}");
+            refused += 1;
+        }
+        let (mut room, mut record) = (case.step_room.clone(), case.record);
+        if step(&case.sheet, &case.log, &mut record, &mut room).number != 0 {
+            assert_eq!(
+                (room, record),
+                (case.step_room, case.record),
+                "step {index}"
+            );
+            refused += 1;
+        }
+    }
+    assert!(refused > 1_000, "{refused}");
+}
+
+fn find(name: &str) -> peer::generate::Case {
+    let mut all = named().into_iter();
+    all.find(|case| case.0 == name).expect(name).1
+}
+
+#[test]
+fn named_cases_have_names_of_their_own() {
+    let names: std::collections::BTreeSet<_> = named().iter().map(|case| case.0).collect();
+    assert_eq!(names.len(), named().len());
+    assert!(names.len() >= 20, "{}", names.len());
+}
+
+#[test]
+fn named_long_searches() {
+    let found = find("found after millions of tries");
+    let given = one_stream(&found.sheet, found.node, found.stream);
+    assert_eq!(given.number, 0);
+    assert!(given.third > 1_000_000, "{given:?}");
+    assert_eq!(given.second, 2 * given.third - 1);
+    for name in [
+        "demand passes 32 bits, last stream",
+        "demand passes 32 bits, first stream",
+        "both late, the first of lower priority",
+    ] {
+        let late = find(name);
+        assert_eq!(
+            one_stream(&late.sheet, late.node, late.stream),
+            answer(7, late.node, late.stream),
+            "{name}"
+        );
+    }
+}
+
+#[test]
+#[cfg(not(debug_assertions))]
+fn named_searches_up_to_a_far_deadline() {
+    for name in ["a J far past the deadline", "no J at all"] {
+        let late = find(name);
+        let given = one_stream(&late.sheet, late.node, late.stream);
+        assert_eq!(given, answer(7, late.node, late.stream), "{name}");
+    }
+}
+
+#[test]
+fn named_replays() {
+    let replayed = |name: &str| {
+        let mut case = find(name);
+        replay(&case.sheet, &case.log, case.horizon, &mut case.room)
+    };
+    assert_eq!(
+        replayed("ten million silent turns"),
+        answer(0, 10_000_000, 10_000_000)
+    );
+    assert_eq!(
+        replayed("sixteen nodes without streams"),
+        answer(0, 1_000_000, 1_000_000)
+    );
+    assert_eq!(replayed("4097 releases"), answer(9, 0, 0));
+    assert_eq!(replayed("odd and too long a log"), answer(9, 0, 0));
+    assert_eq!(replayed("fault in release 4096"), answer(9, 0, 4_096));
+    assert_eq!(
+        replayed("greatest record, question and horizon"),
+        answer(10, 0, 0)
+    );
+    assert_eq!(replayed("nothing at all"), answer(1, 0, 0));
+    assert_eq!(replayed("every word the greatest"), answer(2, 0, 0));
+    assert_eq!(replayed("empty body at a wrong place"), answer(4, 16, 0));
+    assert_eq!(
+        replayed("a sheet of a hundred thousand words"),
+        answer(4, 0, 0)
+    );
+    // 4,096 messages and 256 slots, then slots alone up to the horizon.
+    assert_eq!(replayed("4096 releases at once").number, 0);
+}

@@ -1,0 +1,164 @@
+//! Single rules of the bus, the log, the replay and the step.
+
+mod common;
+
+use common::*;
+use peer::{replay, step, Record};
+
+fn record(tick: u32, node: u32, turns: u32) -> Record {
+    Record { tick, node, turns }
+}
+
+#[test]
+fn the_first_turn_is_node_1_at_tick_0() {
+    assert_eq!(replayed(&SHEET_A, &[0, 1], 1), (answer(0, 1, 6), vec![0]));
+}
+
+#[test]
+fn a_release_at_the_start_tick_is_taken() {
+    assert_eq!(
+        replayed(&SHEET_A, &[0, 3, 1, 3], 20).1,
+        [1, 6],
+        "node 2's turn starts at 1"
+    );
+}
+
+#[test]
+fn priority_goes_before_log_order() {
+    assert_eq!(replayed(&SHEET_A, &[0, 2, 0, 1], 10).1, [7, 0]);
+}
+
+#[test]
+fn equal_periods_go_by_stream_number() {
+    let sheet = sheet(5, 1, &[(1, &[(50, 20), (50, 50), (50, 10)])]);
+    assert_eq!(replayed(&sheet, &[0, 3, 0, 2, 0, 1], 20).1, [12, 6, 0]);
+}
+
+#[test]
+fn one_stream_goes_by_log_order() {
+    let sheet = sheet(5, 1, &[(2, &[(50, 50)])]);
+    assert_eq!(replayed(&sheet, &[0, 1, 0, 1, 0, 1], 20).1, [0, 5, 11]);
+}
+
+#[test]
+fn a_turn_begun_before_the_horizon_is_finished() {
+    assert_eq!(
+        replayed(&SHEET_A, &[0, 3, 0, 3], 2),
+        (answer(0, 2, 12), vec![1, 6])
+    );
+}
+
+#[test]
+fn a_waiting_stream_of_lower_priority_gives_way_to_a_later_release() {
+    // At 6 both wait again; the stream of shorter period goes first.
+    assert_eq!(replayed(&SHEET_P7, &[0, 1, 0, 2, 6, 1], 18).1, [0, 12, 6]);
+}
+
+#[test]
+fn what_the_room_held_plays_no_part() {
+    for old in [5, NOT_BEGUN, 0] {
+        let mut room = [old; 3];
+        assert_eq!(
+            replay(&SHEET_A, &[0, 1, 0, 2, 1, 3], 12, &mut room),
+            answer(0, 2, 12)
+        );
+        assert_eq!(room, [0, NOT_BEGUN, 6]);
+    }
+}
+
+#[test]
+fn a_late_stream_is_replayed() {
+    let sheet = with(&SHEET_P7, &[(6, 9), (7, 9)]);
+    assert_eq!(replayed(&sheet, &[0, 1], 6), (answer(0, 1, 6), vec![0]));
+}
+
+#[test]
+fn broken_periods_are_replayed() {
+    let log = [0, 1, 0, 1, 0, 1, 0, 1];
+    assert_eq!(replayed(&SHEET_P7, &log, 24).1, [0, 6, 12, 18]);
+}
+
+#[test]
+fn releases_at_or_after_the_horizon_are_accepted() {
+    let log = [4, 1, 6, 1, 1_000_000_000, 2];
+    assert_eq!(
+        replayed(&SHEET_P7, &log, 6),
+        (answer(0, 5, 10), vec![4, NOT_BEGUN, NOT_BEGUN])
+    );
+}
+
+#[test]
+fn largest_log_is_replayed() {
+    let log: Vec<u32> = (0..4_096).flat_map(|_| [0, 1]).collect();
+    let (given, begins) = replayed(&SHEET_P7, &log, 1_000_000_000 / 1_000);
+    assert_eq!(begins[4_095], 4_095 * 6);
+    assert_eq!(given.second, 4_096 + 1_000_000 - 4_096 * 6);
+}
+
+#[test]
+fn step_runs_one_turn_in_place() {
+    let mut at = record(0, 1, 0);
+    let mut room = [NOT_BEGUN, NOT_BEGUN, NOT_BEGUN, OLD];
+    let log = [0, 1, 0, 2, 1, 3];
+    assert_eq!(step(&SHEET_A, &log, &mut at, &mut room), answer(0, 1, 6));
+    assert_eq!(at, record(6, 2, 1));
+    assert_eq!(room, [0, NOT_BEGUN, NOT_BEGUN, OLD]);
+    assert_eq!(step(&SHEET_A, &log, &mut at, &mut room), answer(0, 1, 12));
+    assert_eq!(at, record(12, 1, 2));
+    assert_eq!(room, [0, NOT_BEGUN, 6, OLD]);
+}
+
+#[test]
+fn step_takes_made_up_rooms_as_they_stand() {
+    // Only the second and the last wait; the words of the others are kept,
+    // be they later than the record or one less than not begun.
+    let mut at = record(100, 2, 9);
+    let mut room = [NOT_BEGUN - 1, NOT_BEGUN, 900, 0, NOT_BEGUN];
+    let log = [0, 3, 1, 3, 2, 3, 3, 3, 100, 3];
+    assert_eq!(step(&SHEET_A, &log, &mut at, &mut room), answer(0, 2, 111));
+    assert_eq!(room, [NOT_BEGUN - 1, 100, 900, 0, 105]);
+    assert_eq!(at, record(111, 1, 10));
+}
+
+#[test]
+fn step_leaves_other_nodes_and_later_releases() {
+    let mut at = record(10, 1, 3);
+    let mut room = [NOT_BEGUN; 3];
+    let log = [0, 3, 10, 2, 11, 1];
+    assert_eq!(step(&SHEET_A, &log, &mut at, &mut room), answer(0, 1, 16));
+    assert_eq!(room, [NOT_BEGUN, 10, NOT_BEGUN]);
+}
+
+#[test]
+fn step_takes_the_first_of_the_budget_in_priority_order() {
+    let sheet = sheet(7, 2, &[(2, &[(90, 90), (40, 40), (40, 40), (10, 10)])]);
+    let mut at = record(50, 1, 0);
+    let mut room = [NOT_BEGUN; 6];
+    let log = [0, 1, 0, 3, 1, 2, 1, 2, 2, 4, 51, 4];
+    assert_eq!(step(&sheet, &log, &mut at, &mut room), answer(0, 2, 66));
+    assert_eq!(room, [NOT_BEGUN, NOT_BEGUN, 57, NOT_BEGUN, 50, NOT_BEGUN]);
+}
+
+#[test]
+fn silent_step_moves_on() {
+    let mut at = record(3, 2, 8);
+    assert_eq!(step(&SHEET_A, &[], &mut at, &mut []), answer(0, 0, 4));
+    assert_eq!(at, record(4, 1, 9));
+}
+
+#[test]
+fn step_at_the_last_tick_passes_it() {
+    let streams = [(1, 1); 16];
+    let sheet = sheet(10_000, 10_000, &[(16, &streams[..])]);
+    let last = 1_000_000_000;
+    let mut at = record(last, 1, last);
+    let log = [last, 1].repeat(20);
+    let mut room = [NOT_BEGUN; 20];
+    assert_eq!(
+        step(&sheet, &log, &mut at, &mut room),
+        answer(0, 16, last + 170_000)
+    );
+    assert_eq!(at, record(last + 170_000, 1, last + 1));
+    assert_eq!(room[15], last + 150_000);
+    assert_eq!(room[16..], [NOT_BEGUN; 4]);
+}
