@@ -19,7 +19,7 @@ abbrev pub takenIn : List ℕ → List ℕ → ℕ → ℕ
 takenIn s log i = serveTurn s log (stateAt s log i .bus) (stateAt s log i .begins) .taken
 
 -- The node after one on the sheet is on the sheet.
-next-range : (s : List ℕ) (k : ℕ) → 1 ≤ k → k ≤ nodes s → (1 ≤ nextNode s k) × (nextNode s k ≤ nodes s)
+pub next-range : (s : List ℕ) (k : ℕ) → 1 ≤ k → k ≤ nodes s → (1 ≤ nextNode s k) × (nextNode s k ≤ nodes s)
 unfolding nextNode
 next-range s k from upTo = go (eqb k (nodes s)) refl
   where

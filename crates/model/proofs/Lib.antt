@@ -27,3 +27,5 @@ pub mod QueueTheorem
 pub mod Arrivals
 pub mod ClassArrivals
 pub mod Ranked
+pub mod AnswersFit
+pub mod ReplayFits
