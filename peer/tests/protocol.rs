@@ -3,7 +3,7 @@
 mod common;
 
 use common::*;
-use peer::{replay, step, Record};
+use peer::{one_stream, replay, step, Record};
 
 fn record(tick: u32, node: u32, turns: u32) -> Record {
     Record { tick, node, turns }
@@ -21,6 +21,20 @@ fn a_release_at_the_start_tick_is_taken() {
         [1, 6],
         "node 2's turn starts at 1"
     );
+}
+
+#[test]
+fn a_message_can_wait_its_listed_wait_to_the_tick() {
+    let sheet = sheet(
+        5,
+        1,
+        &[(1, &[(40, 40), (60, 60), (100, 100)]), (2, &[(30, 30)])],
+    );
+    assert_eq!(one_stream(&sheet, 1, 2), answer(0, 33, 2));
+    // Node 2 floods the bus, and the lowest stream of node 1 has its turn at 0.
+    let log = [0, 3, 0, 4, 0, 4, 0, 4, 0, 4, 0, 4, 0, 4, 1, 1, 1, 2];
+    let begins = replayed(&sheet, &log, 35).1;
+    assert_eq!(begins[8], 1 + 33);
 }
 
 #[test]

@@ -30,6 +30,12 @@ pub record Begins (s log : List ℕ) (k tick j : ℕ) (begins : List ℕ) (taken
   pub before : Serving s log k tick budget j begins place words
   pub waits : waiting s log k tick words i ≡ true
 
+-- Release i waits at the start of a turn and begins at place p of it.
+pub record Placed (s log : List ℕ) (k tick : ℕ) (begins after : List ℕ) (p i : ℕ) : Type 0 where
+  pub inLog : i < releases log
+  pub waited : waiting s log k tick begins i ≡ true
+  pub at : word after i ≡ tick + p * messageTicks s
+
 -- True where a turn changed the word of release i.
 abbrev pub changed : List ℕ → List ℕ → ℕ → Bool
 changed begins after i = not (eqb (word begins i) (word after i))
@@ -115,6 +121,29 @@ module _ {s log : List ℕ} {k tick : ℕ} where
       → Begins s log k tick j begins taken after i
       → waiting s log k tick begins i ≡ true
   begins-waited {i} b = serve-waited (b .before) i (b .waits)
+
+  -- Each place of a turn is taken, by a release that waits at its start and begins at that place's tick.
+  pub serve-places : {left j taken : ℕ} {begins after : List ℕ}
+      → Serving s log k tick left j begins taken after
+      → releases log ≤ length begins
+      → tick + taken * messageTicks s < notBegun
+      → (p : ℕ)
+      → j ≤ p
+      → p < taken
+      → (i : ℕ) × Placed s log k tick begins after p i
+  serve-places spent fits early p from upTo = absurd (omega arith)
+  serve-places (emptied nobody) fits early p from upTo = absurd (omega arith)
+  serve-places {j} {taken} {begins} {after} (serves {first} {next} now rest) fits early p from upTo =
+      go (ℕ-discrete p j) (serve-places rest (omega (arith, takes-length now)) early p)
+    where
+      go : Dec (p ≡ j)
+          → (suc j ≤ p → p < taken → (i : ℕ) × Placed s log k tick next after p i)
+          → (i : ℕ) × Placed s log k tick begins after p i
+      go (yes e) ih =
+          (first, record { inLog = now .inLog; waited = takes-waited now; at = rw e (serve-first now rest fits early) })
+      go (no d) ih =
+          let w = ih (omega arith) upTo in
+          (w .0, record { inLog = w .1 .inLog; waited = serve-waited (serves now spent) (w .0) (w .1 .waited); at = w .1 .at })
 
   -- As many words of releases change as messages are taken.
   pub serve-counted : {left j taken : ℕ} {begins after : List ℕ}

@@ -1,15 +1,15 @@
 -- The clock of the bus: how far one turn moves it, and what holds before every turn of the protocol. Assumes nothing.
 use Prim.Native.Nat.{ℕ, zero, suc, _+_, _*_, _≤_, _<_}
 use mathlib.Core.Path.{_≡_, refl, _∙_}
-use mathlib.Core.Bool.{Bool, true, false, cond}
+use mathlib.Core.Logic.{_⊎_, inl, inr}
 use mathlib.Core.List.{List}
-use native.Mathlib.Nat.{mul-le-mul-right, le-refl}
-use native.Mathlib.Decide.{le-ind}
+use native.Mathlib.Nat.{mul-le-mul, mul-le-mul-right, le-refl}
+use native.Mathlib.Numerals.{add-one}
+use native.Mathlib.Decide.{ℕ-discrete, le-ind}
 use native.Mathlib.Omega.{arith}
-use lib.Dec.{eqb}
 use lib.ListN.{length, length-replicate}
-use borrow.Author.Tests.{eqb-false}
-use Rattle.model.specs.Limits.{notBegun}
+use borrow.Author.Tests.{eq-eqb, ne-eqb}
+use Rattle.model.specs.Limits.{maxBudget, maxSlotTicks, notBegun}
 use Rattle.model.specs.Sheet.{nodes, messageTicks, slotTicks, budget}
 use Rattle.model.specs.Protocol.{releases, serveTurn, nextNode, nextBus, State, turn, start, stateAt, startOf, nodeOf}
 use Rattle.model.proofs.Serve.{Serving, serving, serve-length, serve-taken}
@@ -18,14 +18,24 @@ use Rattle.model.proofs.Serve.{Serving, serving, serve-length, serve-ta
 abbrev pub takenIn : List ℕ → List ℕ → ℕ → ℕ
 takenIn s log i = serveTurn s log (stateAt s log i .bus) (stateAt s log i .begins) .taken
 
+-- After the last node comes node 1, and after any other the one with the next number.
+pub after-node : (s : List ℕ) (k : ℕ)
+    → k ≤ nodes s
+    → ((k ≡ nodes s) × (nextNode s k ≡ 1)) ⊎ ((k < nodes s) × (nextNode s k ≡ suc k))
+unfolding nextNode
+after-node s k upTo = go (ℕ-discrete k (nodes s))
+  where
+    go : Dec (k ≡ nodes s) → ((k ≡ nodes s) × (nextNode s k ≡ 1)) ⊎ ((k < nodes s) × (nextNode s k ≡ suc k))
+    go (yes last) = inl (last, rw (eq-eqb k (nodes s) last))
+    go (no other) = inr (omega arith, rw (ne-eqb k (nodes s) other, add-one))
+
 -- The node after one on the sheet is on the sheet.
 pub next-range : (s : List ℕ) (k : ℕ) → 1 ≤ k → k ≤ nodes s → (1 ≤ nextNode s k) × (nextNode s k ≤ nodes s)
-unfolding nextNode
-next-range s k from upTo = go (eqb k (nodes s)) refl
+next-range s k from upTo = go (after-node s k upTo)
   where
-    go : (b : Bool) → eqb k (nodes s) ≡ b → (1 ≤ cond b 1 (k + 1)) × (cond b 1 (k + 1) ≤ nodes s)
-    go true last = omega arith
-    go false more = let other : k ≡ nodes s → ⊥ = eqb-false k (nodes s) more in omega arith
+    go : {next : ℕ} → ((k ≡ nodes s) × (next ≡ 1)) ⊎ ((k < nodes s) × (next ≡ suc k)) → (1 ≤ next) × (next ≤ nodes s)
+    go (inl last) = omega arith
+    go (inr more) = omega arith
 
 module _ (s log : List ℕ) where
   -- A turn moves the clock by its protocol slot at least.
@@ -84,6 +94,19 @@ module _ (s log : List ℕ) where
   unfolding stateAt start
   node-range some zero = omega arith
   node-range some (suc i) = rw (next-node i) (next-range s (nodeOf s log i) (node-range some i .0) (node-range some i .1))
+
+  -- Where budgets, messages and protocol slots are in range, the next turn starts within the longest turn that there can be.
+  pub turn-longest : 1 ≤ nodes s
+      → messageTicks s ≤ maxSlotTicks
+      → slotTicks s ≤ maxSlotTicks
+      → ((k : ℕ) → 1 ≤ k → k ≤ nodes s → budget s k ≤ maxBudget)
+      → (i : ℕ)
+      → startOf s log (suc i) ≤ startOf s log i + (maxBudget * maxSlotTicks + maxSlotTicks)
+  unfolding stateAt
+  turn-longest some message slots budgets i =
+      let r = node-range some i in
+      let messages = mul-le-mul (budgets (nodeOf s log i) (r .0) (r .1)) message in
+      omega (arith, turn-most (stateAt s log i))
 
   -- A later turn starts no earlier.
   pub starts-grow : (a b : ℕ) → a ≤ b → startOf s log a ≤ startOf s log b

@@ -1,5 +1,6 @@
--- Laws that the other crates cite, one subject a file, in the order in which they build on each other.
+-- Laws that the other crates cite, one subject a file, in the order in which they build on each other. Demand is demand 3, whole.
 pub mod Order
+pub mod Buffer
 pub mod Tests
 pub mod Lexicographic
 pub mod Refusals
@@ -18,6 +19,9 @@ pub mod Begun
 pub mod ServeOrder
 pub mod Clock
 pub mod Run
+pub mod AnswersFit
+pub mod ReplayFits
+pub mod Accepted
 pub mod Counting
 pub mod Line
 pub mod Window
@@ -27,5 +31,9 @@ pub mod QueueTheorem
 pub mod Arrivals
 pub mod ClassArrivals
 pub mod Ranked
-pub mod AnswersFit
-pub mod ReplayFits
+pub mod NodeLine
+pub mod Distance
+pub mod NodeStreams
+pub mod TurnMessages
+pub mod WithinWait
+pub mod Demand

@@ -1,6 +1,7 @@
--- The queue order of a node is a strict total order on its releases: it is lexicographic, by priority of the streams and then by
--- the place in the log. Assumes nothing.
-use Prim.Native.Nat.{ℕ, _-_, _≤_, _<_}
+-- Which streams are a node's, and its queue order: a strict total order on its releases, lexicographic, by priority of the streams and
+-- then by the place in the log. Assumes nothing.
+use Prim.Native.Nat.{ℕ, pred, _-_, _≤_, _<_}
+use native.Mathlib.Decide.{decLt}
 use native.Mathlib.Omega.{arith}
 use mathlib.Core.Path.{_≡_}
 use mathlib.Core.Logic.{_↔_, _⊎_}
@@ -15,6 +16,7 @@ use Rattle.model.proofs.Order.{TotalOn}
 use Rattle.model.proofs.Tests.{and-reading}
 use Rattle.model.proofs.Lexicographic.{lexicographic-reading, lexicographic-irreflexive, lexicographic-transitive, lexicographic-total}
 use Rattle.model.proofs.Rank.{rank-total}
+use Rattle.model.proofs.RunningSums.{streams-grow}
 
 -- A running stream number is one of node k's exactly where it is above those of the nodes before and not above node k's last.
 pub ofNode-reading : (s : List ℕ) (k r : ℕ) → (ofNode s k r ≡ true) ↔ ((streamsBefore s k < r) × (r ≤ streamsUpTo s k))
@@ -22,6 +24,18 @@ unfolding ofNode
 ofNode-reading s k r =
     let both = and-reading (ltb (streamsBefore s k) r) (leb r (streamsUpTo s k)) in
     (λ e. (ltb-true _ _ (both .0 e .0), leb-true _ _ (both .0 e .1)), λ h. both .1 (lt-ltb _ _ (h .0), le-leb _ _ (h .1)))
+
+-- A stream is of one node only.
+pub node-once : (s : List ℕ) (k n r : ℕ) → 1 ≤ k → 1 ≤ n → ofNode s k r ≡ true → ofNode s n r ≡ true → n ≡ k
+node-once s k n r from from' p q = go (decLt n k) (decLt k n) (ofNode-reading s k r .0 p) (ofNode-reading s n r .0 q)
+  where
+    Among : ℕ → Type 0
+    Among m = (streamsBefore s m < r) × (r ≤ streamsUpTo s m)
+
+    go : Dec (n < k) → Dec (k < n) → Among k → Among n → n ≡ k
+    go (yes h) d a b = absurd (omega (arith, streams-grow s n (pred k) (omega arith)))
+    go (no d) (yes h) a b = absurd (omega (arith, streams-grow s k (pred n) (omega arith)))
+    go (no d) (no e) a b = omega arith
 
 -- The number within node k of a running stream number.
 abbrev numberIn : List ℕ → ℕ → ℕ → ℕ

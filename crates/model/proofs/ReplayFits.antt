@@ -1,6 +1,6 @@
 -- The numbers that the replay and a step answer fit 32-bit words, where the words that were handed in do, and so do the fields of
 -- the bus record after a step. Assumes nothing.
-use Prim.Native.Nat.{ℕ, _+_, _*_, _^_, _≤_, _<_}
+use Prim.Native.Nat.{ℕ, _+_, _≤_}
 use native.Mathlib.Nat.{suc-ne-zero, mul-le-mul}
 use native.Mathlib.Omega.{arith}
 use mathlib.Core.Path.{_≡_}

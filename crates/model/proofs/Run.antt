@@ -5,15 +5,15 @@ use mathlib.Core.Path.{_≡_, refl, sym, _∙_, ap}
 use mathlib.Core.Logic.{⊎-elim}
 use mathlib.Core.Bool.{Bool, true, false}
 use mathlib.Core.List.{List}
-use native.Mathlib.Nat.{mul-le-mul, eq-or-lt-of-le, le-antisymm}
+use native.Mathlib.Nat.{eq-or-lt-of-le, le-antisymm}
 use native.Mathlib.Decide.{decLe}
 use native.Mathlib.Omega.{arith}
 use lib.Dec.{ltb}
 use borrow.Author.Tests.{ltb-true, ltb-false, le-ltb}
 use Rattle.model.specs.Limits.{maxBudget, maxSlotTicks}
 use Rattle.model.specs.Sheet.{nodes, messageTicks, slotTicks, budget}
-use Rattle.model.specs.Protocol.{State, turn, start, stateAt, startOf, nodeOf, TurnsBefore, run, replayed}
-use Rattle.model.proofs.Clock.{turn-least, turn-most, next-state, next-start, turns-counted, node-range, start-at-least}
+use Rattle.model.specs.Protocol.{State, turn, start, stateAt, startOf, TurnsBefore, run, replayed}
+use Rattle.model.proofs.Clock.{turn-least, turn-longest, next-state, next-start, turns-counted, start-at-least}
 
 -- A run from the state before turn i ends in that before turn `count`, and its turns are those that start before the horizon.
 record Reached (s log : List ℕ) (horizon fuel i : ℕ) : Type 0 where
@@ -140,10 +140,7 @@ module _ (s log : List ℕ) (horizon : ℕ) where
             → startOf s log count ≤ horizon + (maxBudget * maxSlotTicks + maxSlotTicks)
         tick-most zero before = omega arith
         tick-most (suc i) before =
-            let r = node-range s log some i in
-            let k : ℕ = nodeOf s log i in
-            let messages = mul-le-mul (budgets k (r .0) (r .1)) message in
-            omega (arith, before .started i (omega arith), turn-most s log (stateAt s log i))
+            omega (arith, before .started i (omega arith), turn-longest s log some message slots budgets i)
 
 -- There is but one number of turns that start before the horizon.
 pub turns-unique : {s log : List ℕ} {horizon a b : ℕ} → TurnsBefore s log horizon a → TurnsBefore s log horizon b → a ≡ b

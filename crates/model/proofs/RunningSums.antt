@@ -1,13 +1,13 @@
 -- Sums over the nodes of a valid sheet: streams up to a node, and the full cycle. Assumes nothing.
-use Prim.Native.Nat.{ℕ, zero, suc, pred, _+_, _*_, _≤_, _<_}
-use native.Mathlib.Nat.{mul-le-mul, le-of-lt, le-refl, eq-or-lt-of-le}
+use Prim.Native.Nat.{ℕ, zero, suc, _+_, _*_, _≤_, _<_}
+use native.Mathlib.Nat.{mul-le-mul, le-refl, eq-or-lt-of-le}
 use native.Mathlib.Omega.{arith}
 use mathlib.Core.Path.{_≡_, refl}
 use mathlib.Core.Logic.{_⊎_, inl, inr}
 use mathlib.Core.List.{List}
 use lib.ListN.{length}
-use Rattle.model.specs.Limits.{maxNodes, maxStreams, maxBudget, maxSlotTicks, streamWords}
-use Rattle.model.specs.Sheet.{nodes, messageTicks, slotTicks, streamCount, budget, streamsUpTo, streamsBefore, totalStreams, budgetsUpTo, cycle, streamAt, OnSheet, Valid}
+use Rattle.model.specs.Limits.{maxStreams, maxBudget, streamWords}
+use Rattle.model.specs.Sheet.{nodes, streamCount, streamsUpTo, streamsBefore, totalStreams, budgetsUpTo, cycle, streamAt, OnSheet}
 use Rattle.model.proofs.ValidSheet.{SheetFits}
 
 -- The streams up to a later node are no fewer.

@@ -1,14 +1,14 @@
 -- What a valid sheet gives: lengths, places, counts and ranges, from "number is 0". Assumes nothing.
-use Prim.Native.Nat.{ℕ, zero, suc, pred, _+_, _*_, _≤_, _<_}
+use Prim.Native.Nat.{ℕ, suc, _≤_}
 use native.Mathlib.Omega.{arith}
-use mathlib.Core.Path.{_≡_, refl}
-use mathlib.Core.Bool.{Bool, true, false, _||_, not}
+use mathlib.Core.Path.{_≡_}
+use mathlib.Core.Bool.{_||_, not}
 use mathlib.Core.List.{List}
 use borrow.Author.Tests.{ltb-false, eqb-true, not-false}
 use lib.ListN.{length}
 use lib.Dec.{ltb, eqb}
 use Rattle.model.specs.Limits.{headerWords, maxNodes, maxStreams, maxBudget, maxSlotTicks, maxTime}
-use Rattle.model.specs.Refusal.{refuse, refuseIf, _orElse_, firstOf, outside}
+use Rattle.model.specs.Refusal.{refuse, refuseIf, firstOf, outside}
 use Rattle.model.specs.Sheet.{nodes, messageTicks, slotTicks, place, streamCount, budget, contentsWords, bodyPlace, sheetLength, period, deadline, OnSheet, rowWrong, rowRefusal, streamWrong, streamRefusal, bodyRefusal, headerRefusal, sheetRefusal, Valid}
 use Rattle.model.proofs.Refusals.{orElse-both, refuseIf-none, first-none}
 use Rattle.model.proofs.Tests.{or-neither, within}

@@ -1,7 +1,7 @@
 -- "What is answered": the three numbers of each entry, and what it leaves in the lent buffer ("room") and in the bus record,
 -- for every input. Assumes nothing.
-use Prim.Native.Nat.{ℕ, zero, suc, pred, _+_, _*_, _%_}
-use mathlib.Core.Bool.{Bool, cond, _||_, not}
+use Prim.Native.Nat.{ℕ, zero, suc, pred, _%_}
+use mathlib.Core.Bool.{cond, _||_, not}
 use mathlib.Core.List.{List, [], _∷_, _++_}
 use lib.ListN.{length, drop}
 use lib.Dec.{ltb, eqb}
@@ -13,7 +13,7 @@ use Rattle.model.specs.Limits.{releaseWords, maxReleases, maxTime}
 use Rattle.model.specs.Refusal.{success, refuse, accepted, refuseIf, _orElse_, firstOf, outside}
 use Rattle.model.specs.Sheet.{nodes, streamCount, totalStreams, cycle, sheetRefusal}
 use Rattle.model.specs.Analysis.{verdictOf}
-use Rattle.model.specs.Protocol.{releases, releaseTick, releaseStream, Served, serveTurn, nextBus, State, replayed}
+use Rattle.model.specs.Protocol.{releases, releaseTick, releaseStream, serveTurn, nextBus, replayed}
 
 -- Refusal 6: "room shorter than one word a stream (admit) or a release (replay, step)".
 unfoldable pub roomRefusal : ℕ → ℕ → Answer

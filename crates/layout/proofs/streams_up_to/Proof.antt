@@ -1,7 +1,7 @@
 -- `layout::streams_up_to` meets its contract: the sum so far is that of the nodes passed.
 -- Assumes nothing.
 use Prim.Native.Nat.{_≤_, _*_, _-_, _+_}
-use mathlib.Core.Path.{_≡_, refl, ap₂, _∙_, ap}
+use mathlib.Core.Path.{_≡_, refl, ap₂, _∙_}
 use native.Mathlib.Omega.{arith}
 use native.Mathlib.Numerals.{add-one}
 use borrow.Author.Needs.{needs}

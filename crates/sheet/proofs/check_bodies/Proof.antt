@@ -1,6 +1,6 @@
 -- `sheet::check_bodies` meets its contract: what is left of the row of checks equals the whole.
 -- Assumes nothing.
-use Prim.Native.Nat.{_≤_, _*_, _-_, _+_}
+use Prim.Native.Nat.{_≤_, _-_}
 use mathlib.Core.Path.{_≡_}
 use native.Mathlib.Omega.{arith}
 use borrow.Author.Needs.{needs}

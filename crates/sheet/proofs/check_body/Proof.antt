@@ -1,9 +1,8 @@
 -- `sheet::check_body` meets its contract: what is left of the row of checks equals the whole.
 -- Assumes nothing.
-use Prim.Native.Nat.{_≤_, _*_, _-_, _+_}
-use mathlib.Core.Path.{_≡_, refl, sym, _∙_, ap}
+use Prim.Native.Nat.{_≤_, _-_}
+use mathlib.Core.Path.{_≡_, _∙_, ap}
 use native.Mathlib.Omega.{arith}
-use native.Mathlib.Numerals.{add-one}
 use borrow.Author.Needs.{needs}
 use Rattle.model.proofs.Refusals.{rest, rest-start, rest-on, rest-stop, rest-end}
 use Rattle.model.specs.Refusal.{firstOf}

@@ -1,7 +1,7 @@
 -- `sheet::check_rows` meets its contract: what is left of the row of checks equals the whole, and `at` is where the next body must be.
 -- Assumes nothing.
 use Prim.Native.Nat.{_≤_, _*_, _-_, _+_}
-use mathlib.Core.Path.{_≡_, refl, sym, _∙_, ap}
+use mathlib.Core.Path.{_≡_, _∙_}
 use native.Mathlib.Omega.{arith}
 use native.Mathlib.Numerals.{add-one}
 use borrow.Author.Needs.{needs}

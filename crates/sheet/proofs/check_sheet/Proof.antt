@@ -10,8 +10,8 @@ use native.Mathlib.Omega.{arith}
 use borrow.Author.Needs.{needs}
 use borrow.Author.Tests.{eq-eqb, ne-eqb}
 use lib.ListN.{length}
-use Rattle.model.specs.Refusal.{refuse, refuseIf, firstOf}
-use Rattle.model.specs.Sheet.{nodes, streamsUpTo, sheetLength, rowRefusal, sheetRefusal}
+use Rattle.model.specs.Refusal.{refuse, firstOf}
+use Rattle.model.specs.Sheet.{streamsUpTo, sheetLength, rowRefusal, sheetRefusal}
 use Rattle.model.proofs.Refusals.{refused, passed, refuseIf-so, refuseIf-not, first-none}
 use Rattle.model.proofs.ValidSheet.{header-fits, row-fits}
 use Rattle.model.proofs.RunningSums.{streams-most}
