@@ -1,102 +1,92 @@
-//! Compares the proved library with the second program on generated cases:
-//! `compare SEED COUNT` for the cases 0 to COUNT - 1 of a seed and the named
-//! ones, `compare SEED INDEX one` for one case again.
+//! Compares the proved library with the second program: `compare SEED COUNT`
+//! on the cases 0 to COUNT - 1 of a seed and the named ones, `compare SEED
+//! INDEX one` on one case again.
 
-mod proved;
+mod tally;
 
-use std::collections::BTreeMap;
 use std::process::ExitCode;
 
 use peer::generate::{case, named, Case};
-use peer::Answer;
+use tally::{Outcome, Tally};
 
 const USAGE: &str = "usage: compare SEED COUNT
        compare SEED INDEX one
 ";
 
-/// How often each refusal was answered, by number and kind of place.
-#[derive(Default)]
-struct Tally {
-    cases: u64,
-    differences: u64,
-    answers: BTreeMap<(&'static str, u32, &'static str), u64>,
-}
-
-fn place_kind(a: Answer) -> &'static str {
-    match (a.number, a.second, a.third) {
-        (0, _, _) => "success",
-        (_, 0, 0) => "0 0",
-        (_, 0, _) => "0 release",
-        (_, _, 0) => "node 0",
-        _ => "node stream",
+/// Runs an entry of the second program on a copy of the room.
+fn second(room: &[u32], entry: impl Fn(&mut [u32]) -> peer::Answer) -> Outcome {
+    let mut words = room.to_vec();
+    let a = entry(&mut words);
+    Outcome {
+        answer: (a.number, a.second, a.third),
+        words,
     }
 }
 
-impl Tally {
-    fn entry(
-        &mut self,
-        entry: &'static str,
-        name: &str,
-        case: &Case,
-        ours: Answer,
-        theirs: Answer,
-    ) {
-        *self
-            .answers
-            .entry((entry, theirs.number, place_kind(theirs)))
-            .or_default() += 1;
-        if ours != theirs {
-            self.differences += 1;
-            println!("{entry} differs on {name}: proved {ours:?}, second program {theirs:?}");
-            println!("  sheet {:?}", case.sheet);
-        }
-    }
-
-    fn case(&mut self, name: &str, case: &Case) {
-        self.cases += 1;
-        self.entry(
-            "sheet",
-            name,
-            case,
-            proved::check_sheet(&case.sheet),
-            peer::check_sheet(&case.sheet),
-        );
-    }
-
-    fn report(&self) {
-        println!("cases {}", self.cases);
-        for ((entry, number, place), times) in &self.answers {
-            println!("{entry} {number} ({place}) {times}");
-        }
-        println!("differences {}", self.differences);
+/// Runs an entry of the proved library on a copy of the room.
+fn proved(room: &[u32], entry: impl Fn(&mut [u32]) -> wistorvan::Answer) -> Outcome {
+    let mut words = room.to_vec();
+    let a = entry(&mut words);
+    Outcome {
+        answer: (a.number, a.second, a.third),
+        words,
     }
 }
 
-fn run(arguments: &[String]) -> Option<Tally> {
+fn compare_case(tally: &mut Tally, name: &str, case: &Case) {
+    tally.new_case();
+    let none: [u32; 0] = [];
+    tally.compare(
+        "sheet",
+        name,
+        case,
+        proved(&none, |_| wistorvan::check_sheet(&case.sheet)),
+        second(&none, |_| peer::check_sheet(&case.sheet)),
+    );
+    let (node, stream) = (case.node, case.stream);
+    tally.compare(
+        "one stream",
+        name,
+        case,
+        proved(&none, |_| wistorvan::one_stream(&case.sheet, node, stream)),
+        second(&none, |_| peer::one_stream(&case.sheet, node, stream)),
+    );
+    tally.compare(
+        "admit",
+        name,
+        case,
+        proved(&case.room, |room| wistorvan::admit(&case.sheet, room)),
+        second(&case.room, |room| peer::admit(&case.sheet, room)),
+    );
+}
+
+/// The tally, and whether it is of a whole run.
+fn run(arguments: &[String]) -> Option<(Tally, bool)> {
     let seed: u64 = arguments.first()?.parse().ok()?;
     let count: u64 = arguments.get(1)?.parse().ok()?;
     let mut tally = Tally::default();
     if arguments.get(2).is_some_and(|word| word == "one") {
-        tally.case(&format!("seed {seed} case {count}"), &case(seed, count));
-        return Some(tally);
+        compare_case(&mut tally, "that case", &case(seed, count));
+        return Some((tally, false));
     }
     for index in 0..count {
-        tally.case(&format!("seed {seed} case {index}"), &case(seed, index));
+        let name = format!("case {index}: `compare {seed} {index} one`");
+        compare_case(&mut tally, &name, &case(seed, index));
     }
     for (name, case) in named() {
-        tally.case(name, &case);
+        compare_case(&mut tally, name, &case);
     }
-    Some(tally)
+    Some((tally, true))
 }
 
 fn main() -> ExitCode {
     let arguments: Vec<String> = std::env::args().skip(1).collect();
-    let Some(tally) = run(&arguments) else {
+    let Some((tally, whole)) = run(&arguments) else {
         eprint!("{USAGE}");
         return ExitCode::from(2);
     };
     tally.report();
-    if tally.differences == 0 {
+    if tally.is_good(whole) {
         ExitCode::SUCCESS
     } else {
         ExitCode::FAILURE

@@ -1,0 +1,148 @@
+//! Times the proved library beside the second program, both built for
+//! release, in one run: `bench admit` or `bench search`. Each figure is the
+//! median of nine runs over the same inputs; rooms are not cleared between
+//! runs.
+
+use std::hint::black_box;
+use std::process::ExitCode;
+use std::time::Instant;
+
+const RUNS: usize = 9;
+
+/// The median time of nine runs, in nanoseconds.
+fn median(mut run: impl FnMut()) -> f64 {
+    let mut times: Vec<f64> = (0..RUNS)
+        .map(|_| {
+            let began = Instant::now();
+            run();
+            began.elapsed().as_nanos() as f64
+        })
+        .collect();
+    times.sort_by(f64::total_cmp);
+    times[RUNS / 2]
+}
+
+/// A small generator, so that a run can be repeated.
+struct Random(u64);
+
+impl Random {
+    fn below(&mut self, limit: u64) -> u64 {
+        self.0 ^= self.0 << 13;
+        self.0 ^= self.0 >> 7;
+        self.0 ^= self.0 << 17;
+        self.0 % limit
+    }
+}
+
+/// A sheet with these nodes: a budget and the streams' periods and deadlines.
+fn sheet(message: u32, slot: u32, nodes: &[(u32, Vec<(u32, u32)>)]) -> Vec<u32> {
+    let mut words = vec![nodes.len() as u32, message, slot];
+    let mut place = 3 + 3 * nodes.len() as u32;
+    for (budget, streams) in nodes {
+        words.extend([place, streams.len() as u32, *budget]);
+        place += 2 * streams.len() as u32;
+    }
+    for (period, deadline) in nodes.iter().flat_map(|(_, streams)| streams) {
+        words.extend([*period, *deadline]);
+    }
+    words
+}
+
+/// Admitted sheets of 16 nodes with 16 streams each, with J from 1 to some.
+fn full_sheets(count: usize) -> Vec<Vec<u32>> {
+    let mut random = Random(20_261_115);
+    let mut sheets = Vec::new();
+    while sheets.len() < count {
+        let budget = 1 + random.below(16) as u32;
+        let least = 5_000 * (1 + random.below(20));
+        let nodes: Vec<(u32, Vec<(u32, u32)>)> = (0..16)
+            .map(|_| {
+                let streams = (0..16).map(|_| (least + random.below(9 * least)) as u32);
+                (budget, streams.map(|period| (period, period)).collect())
+            })
+            .collect();
+        let words = sheet(
+            1 + random.below(20) as u32,
+            1 + random.below(5) as u32,
+            &nodes,
+        );
+        if peer::admit(&words, &mut [0; 256]).number == 0 {
+            sheets.push(words);
+        }
+    }
+    sheets
+}
+
+fn print_pair(what: &str, per: f64, proved: f64, second: f64) {
+    println!(
+        "{what}: proved {:.0} ns, second program {:.0} ns, ratio {:.2}",
+        proved / per,
+        second / per,
+        proved / second
+    );
+}
+
+fn admit() {
+    let sheets = full_sheets(500);
+    let mut room = [0u32; 256];
+    let mut largest = 0;
+    for words in &sheets {
+        for node in 1..=16 {
+            for stream in 1..=16 {
+                largest = largest.max(wistorvan::one_stream(words, node, stream).third);
+            }
+        }
+    }
+    println!(
+        "{} admitted sheets of 16 nodes with 16 streams, J up to {largest}",
+        sheets.len()
+    );
+    let proved = median(|| {
+        for words in &sheets {
+            black_box(wistorvan::admit(black_box(words), &mut room));
+        }
+    });
+    let second = median(|| {
+        for words in &sheets {
+            black_box(peer::admit(black_box(words), &mut room));
+        }
+    });
+    print_pair("admit, a sheet", sheets.len() as f64, proved, second);
+}
+
+/// One node with the shortest cycle, whose higher streams nearly fill the
+/// budget, so that the search for J goes far.
+fn search() {
+    let nearly_full = [3, 7, 43, 1807, 3_400_000];
+    let mut streams: Vec<(u32, u32)> = nearly_full.iter().map(|&p| (p, p)).collect();
+    streams.push((1_000_000_000, 1_000_000_000));
+    let words = sheet(1, 1, &[(1, streams)]);
+    let answer = wistorvan::one_stream(&words, 1, 6);
+    println!(
+        "hardest search: J {} and wait {} (number {})",
+        answer.third, answer.second, answer.number
+    );
+    let proved = median(|| {
+        black_box(wistorvan::one_stream(black_box(&words), 1, 6));
+    });
+    let second = median(|| {
+        black_box(peer::one_stream(black_box(&words), 1, 6));
+    });
+    print_pair("one stream", 1.0, proved, second);
+    println!(
+        "a try of J: proved {:.2} ns",
+        proved / f64::from(answer.third)
+    );
+}
+
+fn main() -> ExitCode {
+    match std::env::args().nth(1).as_deref() {
+        Some("admit") => admit(),
+        Some("search") => search(),
+        _ => {
+            eprintln!("usage: bench admit | bench search");
+            return ExitCode::from(2);
+        }
+    }
+    ExitCode::SUCCESS
+}

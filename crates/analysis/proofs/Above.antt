@@ -1,0 +1,49 @@
+-- The least periods of those ranked above a stream, as a loop comes to them stream by stream. Assumes nothing.
+use Prim.Native.Nat.{ℕ, suc, pred, _+_, _-_, _*_, _≤_, _<_}
+use native.Mathlib.Nat.{sub-zero, sub-eq-zero-of-le}
+use native.Mathlib.Numerals.{add-one}
+use native.Mathlib.Omega.{arith}
+use mathlib.Core.Path.{_≡_, refl}
+use mathlib.Core.Bool.{true, false}
+use mathlib.Core.List.{List, [], _∷_}
+use Rattle.model.specs.Limits.{streamWords}
+use Rattle.model.specs.Sheet.{word, place, period}
+use Rattle.model.specs.Analysis.{Stream, streamOf, streamsFrom, outranks, above}
+use Rattle.analysis.specs.Periods.{periodsOf}
+use Rattle.analysis.proofs.Filling.{one-more}
+
+-- The word of stream i + 1 in a body that stands at `at` is its least period.
+pub period-at : (s : List ℕ) (k at i : ℕ) → at ≡ place s k → word s (at + streamWords * i) ≡ period s k (i + 1)
+period-at s k at i placed = let last : pred (i + 1) ≡ i = omega arith in rw (placed, last) refl
+
+module _ (s : List ℕ) (k : ℕ) (x : Stream) where
+  -- The least periods of those above among node k's streams after stream i.
+  abbrev pub left : ℕ → ℕ → List ℕ
+  left i count = periodsOf (above x (streamsFrom s k (suc i) (count - i)))
+
+  -- Before the first stream nothing is collected.
+  pub left-all : (count : ℕ) → left 0 count ≡ periodsOf (above x (streamsFrom s k 1 count))
+  left-all count = rw sub-zero refl
+
+  -- A stream that is above is the first of those left,
+  pub left-ranked : (i count : ℕ)
+      → i < count
+      → outranks (streamOf s k (i + 1)) x ≡ true
+      → left i count ≡ period s k (i + 1) ∷ left (i + 1) count
+  unfolding periodsOf above streamsFrom
+  left-ranked i count inside ranked =
+      rw (one-more i count inside, add-one i) (rw (rw (add-one i) at ranked) refl)
+
+  -- and any other is none of them.
+  pub left-unranked : (i count : ℕ)
+      → i < count
+      → outranks (streamOf s k (i + 1)) x ≡ false
+      → left i count ≡ left (i + 1) count
+  unfolding periodsOf above streamsFrom
+  left-unranked i count inside unranked =
+      rw (one-more i count inside, add-one i) (rw (rw (add-one i) at unranked) refl)
+
+  -- After the last stream none is left.
+  pub left-none : (i count : ℕ) → count ≤ i → left i count ≡ []
+  unfolding periodsOf above streamsFrom
+  left-none i count past = rw (sub-eq-zero-of-le past) refl

@@ -1,0 +1,62 @@
+-- Filling a buffer from its front: the words that are filled in, and the values that are left, are the whole. Each law says what one
+-- store does to that. Assumes nothing.
+use Prim.Native.Nat.{ℕ, suc, _+_, _-_, _≤_, _<_}
+use native.Mathlib.Nat.{le-refl, le-of-lt}
+use native.Mathlib.Numerals.{add-one}
+use native.Mathlib.Omega.{arith}
+use mathlib.Core.Path.{_≡_, sym, ap, _∙_}
+use mathlib.Core.List.{List, [], _∷_, _++_, append-nil, append-assoc}
+use lib.ListN.{length, getD, take, drop, set, length-drop}
+use lib.Seq.{length-take-le, take-length, take-suc, drop-cons, set-at, take-suc-set, take-set-le, take-append-le, take-append-add, append-snoc}
+
+-- Of n things, of which i are done, one is the next.
+pub one-more : (i n : ℕ) → i < n → n - i ≡ suc (n - suc i)
+one-more i n h = omega arith
+
+-- The next value is stored.
+pub fill-one : (xs : List ℕ) (n v : ℕ) {left left' whole : List ℕ}
+    → n < length xs
+    → left ≡ v ∷ left'
+    → take n xs ++ left ≡ whole
+    → take (n + 1) (set xs n v) ++ left' ≡ whole
+fill-one xs n v free next same = rw (add-one n, take-suc-set xs n v free, append-snoc) (rw next at same)
+
+-- A word is stored after those that are filled in, and not counted.
+pub fill-none : (xs : List ℕ) (n v : ℕ) {left left' whole : List ℕ}
+    → left ≡ left'
+    → take n xs ++ left ≡ whole
+    → take n (set xs n v) ++ left' ≡ whole
+fill-none xs n v next same = rw (take-set-le n xs n v (le-refl n)) (rw next at same)
+
+-- The next values are stored at the front of a part that was lent from there on.
+pub fill-part : (xs part after left' : List ℕ) (n count : ℕ) {vs left whole : List ℕ}
+    → n ≤ length xs
+    → count ≤ length part
+    → take count part ≡ vs
+    → left ≡ vs ++ left'
+    → take n xs ++ left ≡ whole
+    → take (n + count) (take n xs ++ (part ++ after)) ++ left' ≡ whole
+fill-part xs part after left' n count inside within filled next same =
+    let front = rw (length-take-le n xs inside) at (take-append-add (take n xs) (part ++ after) count) in
+    rw (front, take-append-le count part after within, filled, append-assoc) (rw next at same)
+
+-- The part of a buffer from a place on has the rest of its words.
+pub part-length : (xs : List ℕ) (n : ℕ) → length (take (length xs - n) (drop n xs)) ≡ length xs - n
+part-length xs n = length-take-le (length xs - n) (drop n xs) (rw length-drop (le-refl _))
+
+-- Nothing is left.
+pub fill-end : (filled : List ℕ) {left whole : List ℕ} → left ≡ [] → filled ++ left ≡ whole → filled ≡ whole
+fill-end filled none same = sym (append-nil filled) ∙ (rw none at same)
+
+-- One list written over the front of another, word by word.
+pub copy-one : (values room : List ℕ) (i : ℕ)
+    → i < length values
+    → i < length room
+    → set (take i values ++ drop i room) i (getD values i 0) ≡ take (i + 1) values ++ drop (i + 1) room
+copy-one values room i inside free =
+    rw (add-one i, drop-cons room i 0 free, take-suc values i 0 inside, append-snoc)
+    (set-at (take i values) (getD room i 0) (drop (suc i) room) (getD values i 0) i (length-take-le i values (le-of-lt inside)))
+
+pub copy-end : (values room : List ℕ)
+    → take (length values) values ++ drop (length values) room ≡ values ++ drop (length values) room
+copy-end values room = ap (λ front. front ++ drop (length values) room) (take-length values)

@@ -1,0 +1,86 @@
+-- `analysis::admit` meets its contract: each part's answer is the chain's where it refuses, with the room as it was, and hands on to
+-- the next where it does not.
+-- Assumes nothing.
+use Prim.Native.Nat.{ℕ}
+use mathlib.Core.Path.{_≡_, refl, sym, ap, _∙_}
+use mathlib.Core.List.{List}
+use native.Mathlib.Nat.{suc-ne-zero}
+use borrow.Author.Needs.{needs}
+use borrow.Author.Tests.{lt-ltb, le-ltb}
+use lib.ListN.{length}
+use Rattle.model.specs.declared.Answer.{Answer}
+use Rattle.model.specs.Refusal.{refuse}
+use Rattle.model.specs.Sheet.{totalStreams}
+use Rattle.model.specs.Answers.{roomRefusal, listedWaits, bufferAfter, admitAnswer, admitBuffer}
+use Rattle.model.proofs.Refusals.{refused, passed, refuseIf-so, refuseIf-not}
+use Rattle.analysis.proofs.Buffer.{buffer-kept}
+use Rattle.analysis.proofs.admit.Statement.{statement}
+use Rattle.analysis.proofs.admit.Tie as tie
+
+-- The buffer goes by the answer.
+of-answer : (s room : List ℕ) {a : Answer} → a ≡ admitAnswer s (length room) → bufferAfter a (listedWaits s) room ≡ admitBuffer s room
+unfolding admitBuffer
+of-answer s room e = ap (λ a. bufferAfter a (listedWaits s) room) e
+
+check-sheet-requires : tie.Need-check-sheet-requires
+check-sheet-requires c κs = search needs
+
+returns : tie.Need-returns
+unfolding admitAnswer
+returns c =
+    let a = c .before .before .before .before .before .args in
+    let answer = refused _ (c .before .before .check-sheet .ensures) (c .if1 .taken) in
+    (answer, buffer-kept _ (listedWaits (a .sheet .now)) (a .room .now) (c .if1 .taken) ∙ of-answer (a .sheet .now) (a .room .now) answer)
+
+word-at-requires : tie.Need-word-at-requires
+word-at-requires c κs = search needs
+
+streams-up-to-requires : tie.Need-streams-up-to-requires
+streams-up-to-requires c κs = search needs
+
+-- The streams of the whole sheet.
+total : (c : tie.After-streams-up-to) → c .streams-up-to .result ≡ totalStreams (c .before .before .before .before .before .before .before .args .sheet .now)
+total c = rw (c .before .word-at .ensures) at (c .streams-up-to .ensures)
+
+returns-2 : tie.Need-returns-2
+unfolding admitAnswer roomRefusal
+returns-2 c =
+    let a = c .before .before .before .before .before .before .before .before .args in
+    let short = lt-ltb (length (a .room .now)) (totalStreams (a .sheet .now)) (rw (total (c .before)) at (c .if2 .taken)) in
+    let answer =
+    passed (c .before .before .before .before .before .check-sheet .ensures) (c .before .before .before .if1 .left)
+    (refused _ (sym (refuseIf-so (refuse 6 0 0) short)) (suc-ne-zero 5))
+    in
+    (answer, buffer-kept _ (listedWaits (a .sheet .now)) (a .room .now) (suc-ne-zero 5) ∙ of-answer (a .sheet .now) (a .room .now) answer)
+
+judge-sheet-requires : tie.Need-judge-sheet-requires
+judge-sheet-requires c κs =
+    (rw (c .before .before .before .before .before .before .check-sheet .ensures) at (c .before .before .before .before .if1 .left), total (c .before .before), c .before .if2 .left)
+
+same-length : tie.Need-same-length
+same-length c = search needs
+
+returns-3 : tie.Need-returns-3
+unfolding admitAnswer roomRefusal
+returns-3 c =
+    let a = c .before .before .before .before .before .before .before .before .before .before .before .before .args in
+    let judged = c .before .before .judge-sheet .ensures in
+    let fits = le-ltb (length (a .room .now)) (totalStreams (a .sheet .now)) (rw (total (c .before .before .before .before .before)) at (c .before .before .before .before .if2 .left)) in
+    let answer =
+    passed (c .before .before .before .before .before .before .before .before .before .check-sheet .ensures) (c .before .before .before .before .before .before .before .if1 .left)
+    (passed (sym (refuseIf-not (refuse 6 0 0) fits)) refl (judged .0))
+    in
+    (answer, judged .1 ∙ of-answer (a .sheet .now) (a .room .now) answer)
+
+pub admit-spec : {M : Type 1} → statement M
+admit-spec =
+    tie.close
+    (tie.spec
+    check-sheet-requires
+    returns
+    word-at-requires
+    streams-up-to-requires
+    returns-2
+    judge-sheet-requires
+    same-length
+    returns-3)

@@ -1,0 +1,88 @@
+#!/usr/bin/env bash
+# Runs target/bin/admit on whole inputs, cut ones and pipes, and holds its output, to the byte, to document 01's and to the second
+# program's.
+. "$(dirname "$0")/lib.sh"
+
+# An input file and the lines to expect; nothing may come on standard error.
+admit() { # NAME FILE LINE..
+    local name=$1 file=$2
+    shift 2
+    printf '%s\n' "$@" >"$work/expected"
+    "$bin/admit" <"$file" >"$work/got" 2>&1
+    holds "admit $name" "$work/got" "$work/expected"
+    "$peer" admit <"$file" >"$work/second"
+    holds "admit $name, second program" "$work/got" "$work/second"
+}
+
+sheet_a="2 5 1 9 2 1 13 1 2 40 40 60 60 30 30"
+words a $sheet_a
+admit "sheet A" "$work/a" "node stream wait" "1 1 16" "1 2 33" "2 1 16" "admitted 3"
+
+# In pieces: one byte at a time, with pauses between some.
+{
+    for at in $(seq 0 59); do
+        dd if="$work/a" bs=1 skip="$at" count=1 status=none
+        [ $((at % 20)) -ne 7 ] || sleep 0.05
+    done
+} | "$bin/admit" >"$work/got" 2>&1
+"$bin/admit" <"$work/a" >"$work/expected"
+holds "sheet A in small pieces" "$work/got" "$work/expected"
+
+: >"$work/empty"
+admit "empty sheet" "$work/empty" "refused 1 at 0 0"
+words short 2 5
+admit "two words" "$work/short" "refused 1 at 0 0"
+words n0 0 5 1
+admit "n of 0" "$work/n0" "refused 2 at 0 0"
+words n17 17 5 1
+admit "n of 17" "$work/n17" "refused 2 at 0 0"
+words tms 2 10001 1
+admit "TMS of 10,001" "$work/tms" "refused 3 at 0 0"
+words cut 2 5 1 9 2 1
+admit "contents cut short" "$work/cut" "refused 4 at 0 0"
+words place 2 5 1 9 2 1 14 1 2 40 40 60 60 30 30
+admit "a wrong place" "$work/place" "refused 4 at 2 0"
+words long $sheet_a 7
+admit "a word too many" "$work/long" "refused 4 at 0 0"
+words due 2 5 1 9 2 1 13 1 2 40 40 60 61 30 30
+admit "a deadline over its period" "$work/due" "refused 5 at 1 2"
+words p3 2 5 1 9 2 1 13 1 2 40 40 60 37 30 30
+admit "P3" "$work/p3" "refused 7 at 1 2"
+words late 1 5 1 6 2 1 100 6 9 9
+admit "the first late in sheet order" "$work/late" "refused 7 at 1 1"
+words idle 3 5 1 12 0 1 12 0 1 12 0 1
+admit "all nodes without streams" "$work/idle" "node stream wait" "admitted 0"
+words figure1 3 5 1 12 3 1 18 1 1 20 1 1 20 20 65 65 67 67 26 26 35 35
+admit "Figure 1 of 000 in fifths" "$work/figure1" "refused 7 at 1 1"
+
+printf 'abcde' >"$work/five"
+admit "5 bytes" "$work/five" "refused 1 at 0 0"
+{ cat "$work/a"; printf x; } >"$work/a61"
+admit "sheet A and a byte" "$work/a61" "refused 1 at 0 0"
+
+# 16 nodes of 16 streams: 563 words, 2,252 bytes, the longest valid sheet.
+full=$(awk 'BEGIN {
+    print "16 1 1"
+    for (k = 0; k < 16; k++) print 51 + 32 * k, 16, 16
+    for (i = 0; i < 256; i++) print 100000, 100000
+}')
+words full $full
+rows=$(awk 'BEGIN { for (k = 1; k <= 16; k++) for (j = 1; j <= 16; j++) print k, j, 271 + j - 1 }')
+[ "$(wc -c <"$work/full")" -eq 2252 ] || { echo "the longest sheet is not 2,252 bytes"; failed=$((failed + 1)); }
+mapfile -t lines <<<"$rows"
+admit "16 nodes of 16 streams" "$work/full" "node stream wait" "${lines[@]}" "admitted 256"
+words over $full 1
+admit "2,256 bytes" "$work/over" "refused 1 at 0 0"
+{ printf '\0\0\0\0'; head -c 2252 /dev/zero; } >"$work/zeros"
+admit "2,256 bytes that start with n of 0" "$work/zeros" "refused 1 at 0 0"
+head -c 100000 /dev/zero >"$work/huge"
+admit "100,000 bytes" "$work/huge" "refused 1 at 0 0"
+
+for sample in "$root"/samples/*.txt; do
+    case $sample in *-log.txt) continue ;; esac
+    "$root/tools/words" <"$sample" >"$work/sample"
+    "$peer" admit <"$work/sample" >"$work/expected"
+    "$bin/admit" <"$work/sample" >"$work/got" 2>&1
+    holds "admit $(basename "$sample")" "$work/got" "$work/expected"
+done
+finish
