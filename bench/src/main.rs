@@ -1,5 +1,5 @@
 //! Times the proved library beside the second program, both built for
-//! release, in one run: `bench admit` or `bench search`. Each figure is the
+//! release, in one run: `bench admit`, `bench search`, `bench hardest`. Each figure is the
 //! median of nine runs over the same inputs; rooms are not cleared between
 //! runs.
 
@@ -110,17 +110,21 @@ fn admit() {
     print_pair("admit, a sheet", sheets.len() as f64, proved, second);
 }
 
-/// One node with the shortest cycle, whose higher streams nearly fill the
-/// budget, so that the search for J goes far.
-fn search() {
+/// One node with the shortest cycle, whose five fast streams nearly fill the
+/// budget, and `slow` streams below them: the search for J goes far.
+fn far_search(slow: usize) -> Vec<u32> {
     let nearly_full = [3, 7, 43, 1807, 3_400_000];
     let mut streams: Vec<(u32, u32)> = nearly_full.iter().map(|&p| (p, p)).collect();
-    streams.push((1_000_000_000, 1_000_000_000));
-    let words = sheet(1, 1, &[(1, streams)]);
+    streams.extend(vec![(1_000_000_000, 1_000_000_000); slow]);
+    sheet(1, 1, &[(1, streams)])
+}
+
+fn search() {
+    let words = far_search(1);
     let answer = wistorvan::one_stream(&words, 1, 6);
     println!(
-        "hardest search: J {} and wait {} (number {})",
-        answer.third, answer.second, answer.number
+        "five streams above: J {}, wait {}",
+        answer.third, answer.second
     );
     let proved = median(|| {
         black_box(wistorvan::one_stream(black_box(&words), 1, 6));
@@ -130,8 +134,22 @@ fn search() {
     });
     print_pair("one stream", 1.0, proved, second);
     println!(
-        "a try of J: proved {:.2} ns",
+        "a try of J: proved {:.1} ns",
         proved / f64::from(answer.third)
+    );
+}
+
+/// The longest search found, run once: fifteen streams above, and nearly as
+/// many tries as a deadline allows.
+fn hardest() {
+    let words = far_search(11);
+    let began = Instant::now();
+    let answer = wistorvan::one_stream(&words, 1, 16);
+    println!(
+        "fifteen streams above: J {}, wait {}, {:.1} s",
+        answer.third,
+        answer.second,
+        began.elapsed().as_secs_f64()
     );
 }
 
@@ -139,8 +157,9 @@ fn main() -> ExitCode {
     match std::env::args().nth(1).as_deref() {
         Some("admit") => admit(),
         Some("search") => search(),
+        Some("hardest") => hardest(),
         _ => {
-            eprintln!("usage: bench admit | bench search");
+            eprintln!("usage: bench admit | search | hardest");
             return ExitCode::from(2);
         }
     }
