@@ -1,13 +1,13 @@
 -- Demand 3 is not empty: in P11 its premises hold for stream 1 of node 1, whose message, released at 1, begins at 17: a wait of 16,
 -- which is its listed wait to the tick. Assumes nothing.
-use Prim.Native.Nat.{ℕ, zero, suc, _≤_, _<_}
+use Prim.Native.Nat.{ℕ, zero, suc}
 use native.Mathlib.Omega.{arith}
 use mathlib.Core.Path.{_≡_, refl}
-use mathlib.Core.Bool.{true, false, false≢true}
+use mathlib.Core.Bool.{true, false≢true}
 use Rattle.model.specs.declared.Verdict.the-variants.{Listed}
 use Rattle.model.specs.Sheet.{OnSheet, streamsUpTo, budgetsUpTo, cycle}
 use Rattle.model.specs.Analysis.{streamOf, outranks, streamsFrom, above, interference, waitFor, verdictAt, search, verdict, verdictOf}
-use Rattle.model.specs.Protocol.{Successive, KeepsPeriod}
+use Rattle.model.specs.Protocol.{Successive}
 use Rattle.model.specs.Demand.{PeriodsKept, DueBefore}
 use Rattle.cases.specs.Cases.{sheetA, logP11}
 

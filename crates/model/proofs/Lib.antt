@@ -19,6 +19,7 @@ pub mod Begun
 pub mod ServeOrder
 pub mod Clock
 pub mod Run
+pub mod Idle
 pub mod AnswersFit
 pub mod ReplayFits
 pub mod Accepted
@@ -37,3 +38,4 @@ pub mod NodeStreams
 pub mod TurnMessages
 pub mod WithinWait
 pub mod Demand
+pub mod ReplayDemand

@@ -1,7 +1,7 @@
 -- `analysis::cycle_of` meets its contract: each factor is the definition's, and the whole bounds its two parts.
 -- Assumes nothing.
 use Prim.Native.Nat.{_+_, _*_}
-use mathlib.Core.Path.{_≡_, refl, ap₂}
+use mathlib.Core.Path.{_≡_, ap₂}
 use native.Mathlib.Omega.{arith}
 use borrow.Author.Needs.{needs}
 use Rattle.model.specs.Sheet.{nodes, messageTicks, slotTicks, budgetsUpTo, cycle}

@@ -1,7 +1,7 @@
 -- `analysis::interference_of` meets its contract: the sum so far and the interference of the periods that are left are the whole.
 -- Assumes nothing.
-use Prim.Native.Nat.{_≤_, _-_, _+_, _*_, _/_}
-use mathlib.Core.Path.{_≡_, sym}
+use Prim.Native.Nat.{_≤_, _-_, _+_, _*_}
+use mathlib.Core.Path.{_≡_}
 use native.Mathlib.Nat.{div-le-self}
 use native.Mathlib.Omega.{arith}
 use borrow.Author.Needs.{needs}

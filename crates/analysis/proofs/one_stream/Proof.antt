@@ -1,7 +1,7 @@
 -- `analysis::one_stream` meets its contract: each part's answer is the chain's where it refuses, and hands on to the next where it
 -- does not.
 -- Assumes nothing.
-use mathlib.Core.Path.{sym, ap, _∙_}
+use mathlib.Core.Path.{ap, _∙_}
 use borrow.Author.Needs.{needs}
 use Rattle.model.specs.Answers.{verdictAnswer, oneStreamAnswer}
 use Rattle.model.proofs.Refusals.{refused, passed}

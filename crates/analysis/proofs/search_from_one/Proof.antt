@@ -2,12 +2,12 @@
 -- one cycle fewer are filled.
 -- Assumes nothing.
 use Prim.Native.Nat.{pred, _≤_, _<_, _-_, _+_, _*_}
-use mathlib.Core.Path.{_≡_, sym, ap, _∙_}
+use mathlib.Core.Path.{_≡_, ap, _∙_}
 use native.Mathlib.Nat.{one-le-mul, mul-le-mul, le-mul-of-pos-right, le-of-lt}
 use native.Mathlib.Omega.{arith}
 use borrow.Author.Needs.{needs}
 use Rattle.model.specs.Limits.{maxBudget}
-use Rattle.model.specs.Analysis.{interference, search as search-J, triesWorth}
+use Rattle.model.specs.Analysis.{interference, search as search-J}
 use Rattle.model.proofs.Wait.{worth-try}
 use Rattle.analysis.specs.Periods.{streamsWith}
 use Rattle.analysis.proofs.Searching.{searching, searching-all, searching-found, searching-on, searching-end, filled-on}

@@ -1,11 +1,10 @@
 -- `analysis::verdict_at` meets its contract: the sum is the definition's wait, and the branch decides the late test.
 -- Assumes nothing.
-use Prim.Native.Nat.{pred, _+_, _-_, _*_}
-use mathlib.Core.Path.{_≡_, sym, ap, ap₂, _∙_}
+use Prim.Native.Nat.{pred, _*_}
+use mathlib.Core.Path.{_≡_, sym, ap₂, _∙_}
 use native.Mathlib.Numerals.{sub-one}
 use native.Mathlib.Omega.{arith}
 use borrow.Author.Needs.{needs}
-use Rattle.model.specs.declared.Verdict.the-variants.{Late, Listed}
 use Rattle.model.proofs.Search.{verdict-late, verdict-listed}
 use Rattle.analysis.specs.Periods.{streamsWith}
 use Rattle.analysis.proofs.WaitBounds.{place-least, place-most, window-least, ticks-most, wait-exact}
