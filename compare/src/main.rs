@@ -13,8 +13,12 @@ const USAGE: &str = "usage: compare SEED COUNT
        compare SEED INDEX one
 ";
 
+/// Longer replays are not run as single steps, each of which checks its whole
+/// input again.
+const STEPPED_TURNS: u32 = 200;
+
 /// Runs an entry of the second program on a copy of the room.
-fn second(room: &[u32], entry: impl Fn(&mut [u32]) -> peer::Answer) -> Outcome {
+fn second(room: &[u32], mut entry: impl FnMut(&mut [u32]) -> peer::Answer) -> Outcome {
     let mut words = room.to_vec();
     let a = entry(&mut words);
     Outcome {
@@ -24,7 +28,7 @@ fn second(room: &[u32], entry: impl Fn(&mut [u32]) -> peer::Answer) -> Outcome {
 }
 
 /// Runs an entry of the proved library on a copy of the room.
-fn proved(room: &[u32], entry: impl Fn(&mut [u32]) -> wistorvan::Answer) -> Outcome {
+fn proved(room: &[u32], mut entry: impl FnMut(&mut [u32]) -> wistorvan::Answer) -> Outcome {
     let mut words = room.to_vec();
     let a = entry(&mut words);
     Outcome {
@@ -58,6 +62,61 @@ fn compare_case(tally: &mut Tally, name: &str, case: &Case) {
         proved(&case.room, |room| wistorvan::admit(&case.sheet, room)),
         second(&case.room, |room| peer::admit(&case.sheet, room)),
     );
+    compare_bus(tally, name, case);
+    compare_steps(tally, name, case);
+}
+
+/// The replay and the step, which also leaves a record.
+fn compare_bus(tally: &mut Tally, name: &str, case: &Case) {
+    let (sheet, log) = (&case.sheet, &case.log);
+    tally.compare(
+        "replay",
+        name,
+        case,
+        proved(&case.room, |room| {
+            wistorvan::replay(sheet, log, case.horizon, room)
+        }),
+        second(&case.room, |room| {
+            peer::replay(sheet, log, case.horizon, room)
+        }),
+    );
+    let r = case.record;
+    let mut ours = wistorvan::Bus {
+        tick: r.tick,
+        node: r.node,
+        turns: r.turns,
+    };
+    let mut theirs = r;
+    let mut mine = proved(&case.step_room, |room| {
+        wistorvan::step(sheet, log, &mut ours, room)
+    });
+    mine.words.extend([ours.tick, ours.node, ours.turns]);
+    let mut other = second(&case.step_room, |room| {
+        peer::step(sheet, log, &mut theirs, room)
+    });
+    other.words.extend([theirs.tick, theirs.node, theirs.turns]);
+    tally.compare("step", name, case, mine, other);
+}
+
+/// The replay run as single steps from the start gives the same.
+fn compare_steps(tally: &mut Tally, name: &str, case: &Case) {
+    let whole = proved(&case.room, |room| {
+        wistorvan::replay(&case.sheet, &case.log, case.horizon, room)
+    });
+    if whole.answer.0 != 0 || whole.answer.1 > STEPPED_TURNS {
+        return;
+    }
+    let mut bus = wistorvan::Bus::START;
+    let mut words = case.room.clone();
+    words[..case.log.len() / 2].fill(wistorvan::NOT_BEGUN);
+    while bus.tick < case.horizon {
+        wistorvan::step(&case.sheet, &case.log, &mut bus, &mut words);
+    }
+    let stepped = Outcome {
+        answer: (0, bus.turns, bus.tick),
+        words,
+    };
+    tally.compare("replay as steps", name, case, stepped, whole);
 }
 
 /// The tally, and whether it is of a whole run.

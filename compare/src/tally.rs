@@ -8,7 +8,7 @@ use peer::generate::Case;
 type Kind = (&'static str, u32, &'static str);
 
 /// The answers that a run of some thousand cases must have met.
-const EXPECTED: [Kind; 22] = [
+const EXPECTED: [Kind; 44] = [
     ("sheet", 0, "success"),
     ("sheet", 1, "0 0"),
     ("sheet", 2, "0 0"),
@@ -31,6 +31,28 @@ const EXPECTED: [Kind; 22] = [
     ("one stream", 7, "node stream"),
     ("one stream", 8, "node stream"),
     ("one stream", 8, "node 0"),
+    ("replay", 0, "success"),
+    ("replay", 1, "0 0"),
+    ("replay", 2, "0 0"),
+    ("replay", 3, "0 0"),
+    ("replay", 4, "0 0"),
+    ("replay", 4, "node 0"),
+    ("replay", 5, "node stream"),
+    ("replay", 6, "0 0"),
+    ("replay", 9, "0 0"),
+    ("replay", 9, "0 and a number"),
+    ("replay", 10, "0 0"),
+    ("step", 0, "success"),
+    ("step", 1, "0 0"),
+    ("step", 2, "0 0"),
+    ("step", 3, "0 0"),
+    ("step", 4, "0 0"),
+    ("step", 4, "node 0"),
+    ("step", 5, "node stream"),
+    ("step", 6, "0 0"),
+    ("step", 9, "0 and a number"),
+    ("step", 16, "0 0"),
+    ("replay as steps", 0, "success"),
 ];
 
 fn place(answer: (u32, u32, u32)) -> &'static str {

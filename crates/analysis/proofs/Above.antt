@@ -21,7 +21,7 @@ module _ (s : List ℕ) (k : ℕ) (x : Stream) where
   abbrev pub left : ℕ → ℕ → List ℕ
   left i count = periodsOf (above x (streamsFrom s k (suc i) (count - i)))
 
-  -- Before the first stream nothing is collected.
+  -- Before the first stream all are left.
   pub left-all : (count : ℕ) → left 0 count ≡ periodsOf (above x (streamsFrom s k 1 count))
   left-all count = rw sub-zero refl
 

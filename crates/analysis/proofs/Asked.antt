@@ -10,6 +10,7 @@ use Rattle.model.specs.Answers.{unknownRefusal}
 use Rattle.model.proofs.Tests.{or-neither, within}
 use Rattle.model.proofs.Refusals.{refuseIf-none}
 
+-- Refusal 8 finds nothing: the node and the stream are there.
 pub known-on : (s : List ℕ) (k j : ℕ) → unknownRefusal s k j .number ≡ 0 → OnSheet s k j
 unfolding unknownRefusal
 known-on s k j e =

@@ -1,4 +1,4 @@
--- What an answer leaves in a lent buffer: a success its values and the rest, a refusal every word as it was. Assumes nothing.
+-- What an answer leaves in a lent buffer. Assumes nothing.
 use Prim.Native.Nat.{ℕ}
 use mathlib.Core.Path.{_≡_, refl}
 use mathlib.Core.List.{List, _++_}
@@ -7,10 +7,12 @@ use borrow.Author.Tests.{eq-eqb, ne-eqb}
 use Rattle.model.specs.declared.Answer.{Answer}
 use Rattle.model.specs.Answers.{bufferAfter}
 
+-- A refusal changes no word.
 pub buffer-kept : (a : Answer) (values room : List ℕ) → (a .number ≡ 0 → ⊥) → room ≡ bufferAfter a values room
 unfolding bufferAfter
 buffer-kept a values room refuses = rw (ne-eqb (a .number) 0 refuses) refl
 
+-- A success leaves its values and the rest.
 pub buffer-written : (a : Answer) (values room : List ℕ)
     → a .number ≡ 0
     → values ++ drop (length values) room ≡ bufferAfter a values room

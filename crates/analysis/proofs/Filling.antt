@@ -13,7 +13,7 @@ use lib.Seq.{length-take-le, take-length, take-suc, drop-cons, set-at, take-suc-
 pub one-more : (i n : ℕ) → i < n → n - i ≡ suc (n - suc i)
 one-more i n h = omega arith
 
--- The next value is stored.
+-- The next value is stored after those that are filled in.
 pub fill-one : (xs : List ℕ) (n v : ℕ) {left left' whole : List ℕ}
     → n < length xs
     → left ≡ v ∷ left'
@@ -21,7 +21,7 @@ pub fill-one : (xs : List ℕ) (n v : ℕ) {left left' whole : List ℕ}
     → take (n + 1) (set xs n v) ++ left' ≡ whole
 fill-one xs n v free next same = rw (add-one n, take-suc-set xs n v free, append-snoc) (rw next at same)
 
--- A word is stored after those that are filled in, and not counted.
+-- A word is stored there and not counted.
 pub fill-none : (xs : List ℕ) (n v : ℕ) {left left' whole : List ℕ}
     → left ≡ left'
     → take n xs ++ left ≡ whole
@@ -44,11 +44,11 @@ fill-part xs part after left' n count inside within filled next same =
 pub part-length : (xs : List ℕ) (n : ℕ) → length (take (length xs - n) (drop n xs)) ≡ length xs - n
 part-length xs n = length-take-le (length xs - n) (drop n xs) (rw length-drop (le-refl _))
 
--- Nothing is left.
+-- Nothing is left: what is filled in is the whole.
 pub fill-end : (filled : List ℕ) {left whole : List ℕ} → left ≡ [] → filled ++ left ≡ whole → filled ≡ whole
 fill-end filled none same = sym (append-nil filled) ∙ (rw none at same)
 
--- One list written over the front of another, word by word.
+-- One list written over the front of another: the next word,
 pub copy-one : (values room : List ℕ) (i : ℕ)
     → i < length values
     → i < length room
@@ -57,6 +57,7 @@ copy-one values room i inside free =
     rw (add-one i, drop-cons room i 0 free, take-suc values i 0 inside, append-snoc)
     (set-at (take i values) (getD room i 0) (drop (suc i) room) (getD values i 0) i (length-take-le i values (le-of-lt inside)))
 
+-- and all of them.
 pub copy-end : (values room : List ℕ)
     → take (length values) values ++ drop (length values) room ≡ values ++ drop (length values) room
 copy-end values room = ap (λ front. front ++ drop (length values) room) (take-length values)

@@ -1,10 +1,11 @@
 -- Laws that the proofs of the analysis share, one subject a file, in the order in which they build on each other.
 pub mod Filling
+pub mod StreamSums
+pub mod InRange
 pub mod Periods
 pub mod Above
-pub mod NodeBody
 pub mod Searching
 pub mod WaitBounds
-pub mod Asked
 pub mod Waits
+pub mod Asked
 pub mod Buffer

@@ -9,10 +9,11 @@ use mathlib.Core.Logic.{by-cases}
 use mathlib.Core.List.{List, [], _∷_}
 use lib.ListN.{length, getD, drop, drop-of-length-le}
 use lib.Seq.{drop-cons}
+use Rattle.model.specs.declared.Verdict.{Verdict}
 use Rattle.model.specs.Sheet.{messageTicks, budget, deadline, cycle}
 use Rattle.model.specs.Analysis.{Stream, streamOf, streamsOf, outranks, above, interference, waitFor, verdictAt, search, triesWorth, verdict, verdictOf}
 use Rattle.model.proofs.Search.{search-found, search-on}
-use Rattle.analysis.specs.Periods.{streamWith, streamsWith, periodsOf}
+use Rattle.analysis.specs.Periods.{streamWith, streamsWith, periodsOf, higherPeriods}
 
 -- Rank looks at the numbers and the least periods.
 pub outranks-with : (x y : Stream)
@@ -26,30 +27,34 @@ unfolding interference streamsWith periodsOf
 interference-periods [] w = refl
 interference-periods (y ∷ ys) w = ap (λ h. 1 + w / y .period + h) (interference-periods ys w)
 
--- The interference of periods can be added up from the first on: `sum` is that of those before place i.
 module _ (periods : List ℕ) (w : ℕ) where
-  abbrev pub rest : ℕ → ℕ
-  rest i = interference (streamsWith (drop i periods)) w
+  -- The interference of the periods from place i on: what is left to be added to a sum.
+  abbrev pub interferenceLeft : ℕ → ℕ
+  interferenceLeft i = interference (streamsWith (drop i periods)) w
 
-  pub rest-on : (i sum : ℕ) {whole : ℕ}
+  -- The next period is added,
+  pub interference-next : (i sum : ℕ) {whole : ℕ}
       → i < length periods
-      → sum + rest i ≡ whole
-      → sum + (1 + w / getD periods i 0) + rest (i + 1) ≡ whole
+      → sum + interferenceLeft i ≡ whole
+      → sum + (1 + w / getD periods i 0) + interferenceLeft (i + 1) ≡ whole
   unfolding interference streamsWith
-  rest-on i sum inside same =
+  interference-next i sum inside same =
       let one = drop-cons periods i 0 inside in
       omega (arith, rw one at same, ap (λ n. interference (streamsWith (drop n periods)) w) (add-one i))
 
-  pub rest-end : (i sum : ℕ) {whole : ℕ} → length periods ≤ i → sum + rest i ≡ whole → sum ≡ whole
+  -- and after the last the sum is the whole.
+  pub interference-none : (i sum : ℕ) {whole : ℕ} → length periods ≤ i → sum + interferenceLeft i ≡ whole → sum ≡ whole
   unfolding interference streamsWith
-  rest-end i sum past same = omega (arith, rw (drop-of-length-le periods past) at same)
+  interference-none i sum past same = omega (arith, rw (drop-of-length-le periods past) at same)
 
+-- Streams with the same interference in every window are the same to the search for J.
 module _ (a b : List Stream) (same : (w : ℕ) → interference a w ≡ interference b w) (cycle m ticks deadline : ℕ) where
+  -- They have the same verdict at each J,
   verdict-same : (J : ℕ) → verdictAt a cycle m ticks deadline J ≡ verdictAt b cycle m ticks deadline J
   unfolding verdictAt waitFor
   verdict-same J = rw (same (J * cycle - 1)) refl
 
-  -- The search asks of the streams nothing but their interference.
+  -- and the search.
   pub search-same : (tries from : ℕ)
       → search a cycle m ticks deadline tries from ≡ search b cycle m ticks deadline tries from
   unfolding search
@@ -66,21 +71,17 @@ module _ (a b : List Stream) (same : (w : ℕ) → interference a w ≡ interfer
       ∙ search-same tries (suc from)
       ∙ sym (search-on b cycle m ticks deadline tries from (λ e. short (rw (same (from * cycle - 1)) e))))
 
--- The search with the least periods of those ranked above a stream of a sheet is the verdict on it.
-pub verdict-periods : (s : List ℕ) (k j : ℕ) {periods : List ℕ}
-    → periods ≡ periodsOf (above (streamOf s k j) (streamsOf s k))
-    → search (streamsWith periods) (cycle s) (budget s k) (messageTicks s) (deadline s k j) (triesWorth (cycle s) (messageTicks s) (deadline s k j)) 1
-    ≡ verdictOf s k j
+-- A search with the least periods of those ranked above a stream, and with the sheet's numbers, is the verdict on it.
+pub verdict-periods : (s : List ℕ) (k j : ℕ) {periods : List ℕ} {C m ticks due : ℕ} {v : Verdict}
+    → periods ≡ higherPeriods s k j
+    → C ≡ cycle s
+    → m ≡ budget s k
+    → ticks ≡ messageTicks s
+    → due ≡ deadline s k j
+    → v ≡ search (streamsWith periods) C m ticks due (triesWorth C ticks due) 1
+    → v ≡ verdictOf s k j
 unfolding verdictOf verdict
-verdict-periods s k j e =
-    rw e
-    (search-same
-    (streamsWith (periodsOf (above (streamOf s k j) (streamsOf s k))))
-    (above (streamOf s k j) (streamsOf s k))
-    (interference-periods (above (streamOf s k j) (streamsOf s k)))
-    (cycle s)
-    (budget s k)
-    (messageTicks s)
-    (deadline s k j)
-    (triesWorth (cycle s) (messageTicks s) (deadline s k j))
-    1)
+verdict-periods s k j e f g h i found =
+    let higher = above (streamOf s k j) (streamsOf s k) in
+    (rw (e, f, g, h, i) at found)
+    ∙ search-same (streamsWith (periodsOf higher)) higher (interference-periods higher) (cycle s) (budget s k) (messageTicks s) (deadline s k j) (triesWorth (cycle s) (messageTicks s) (deadline s k j)) 1

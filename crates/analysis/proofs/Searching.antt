@@ -13,24 +13,38 @@ use Rattle.model.proofs.Interference.{interference-grows}
 use Rattle.model.proofs.Search.{search-found, search-on, search-end}
 use Rattle.analysis.proofs.Filling.{one-more}
 
+-- Where the higher streams fill J turns, they do so a cycle later too.
+pub filled-on : (higher : List Stream) (cycle m J : ℕ)
+    → J * m ≤ interference higher (J * cycle - 1)
+    → pred (J + 1) * m ≤ interference higher ((J + 1) * cycle - 1)
+filled-on higher cycle m J filled =
+    let last : pred (J + 1) ≡ J = omega arith in
+    let more : J * cycle ≤ (J + 1) * cycle = mul-le-mul-right cycle (omega arith) in
+    let window : J * cycle - 1 ≤ (J + 1) * cycle - 1 = omega arith in
+    rw last (le-trans filled (interference-grows higher window))
+
 module _ (higher : List Stream) (cycle m ticks deadline : ℕ) where
   -- The search from J on, up to the last number of cycles worth a try.
   abbrev pub searching : ℕ → ℕ → Verdict
   searching tries J = search higher cycle m ticks deadline (suc tries - J) J
 
-  pub searching-all : (tries : ℕ) → searching tries 1 ≡ search higher cycle m ticks deadline tries 1
-  searching-all tries = let e : suc tries - 1 ≡ tries = omega arith in rw e refl
+  -- From 1 on it is the whole search.
+  pub searching-all : {tries all : ℕ} → tries ≡ all → searching tries 1 ≡ search higher cycle m ticks deadline all 1
+  searching-all {tries} {all} same = let e : suc tries - 1 ≡ all = omega arith in rw e refl
 
   -- J suffices: the verdict at J is the whole.
-  pub searching-found : {tries J : ℕ} {whole : Verdict}
+  pub searching-found : {tries J : ℕ} {v whole : Verdict}
       → J ≤ tries
       → Suffices higher cycle m J
+      → v ≡ verdictAt higher cycle m ticks deadline J
       → searching tries J ≡ whole
-      → verdictAt higher cycle m ticks deadline J ≡ whole
-  searching-found {tries} {J} h enough same =
-      sym (search-found higher cycle m ticks deadline (suc tries - suc J) J enough) ∙ (rw (one-more J (suc tries) (suc-le-suc h)) at same)
+      → v ≡ whole
+  searching-found {tries} {J} h enough found same =
+      found
+      ∙ sym (search-found higher cycle m ticks deadline (suc tries - suc J) J enough)
+      ∙ (rw (one-more J (suc tries) (suc-le-suc h)) at same)
 
-  -- The higher streams fill J turns: the search from the next on is the whole still,
+  -- The higher streams fill J turns: the search from the next on is the whole still.
   pub searching-on : {tries J : ℕ} {whole : Verdict}
       → J ≤ tries
       → J * m ≤ interference higher (J * cycle - 1)
@@ -40,16 +54,6 @@ module _ (higher : List Stream) (cycle m ticks deadline : ℕ) where
       rw (add-one J)
       (sym (search-on higher cycle m ticks deadline (suc tries - suc J) J (λ enough. omega arith))
       ∙ (rw (one-more J (suc tries) (suc-le-suc h)) at same))
-
-  -- and in the next cycle they fill them too.
-  pub filled-on : (J : ℕ)
-      → J * m ≤ interference higher (J * cycle - 1)
-      → pred (J + 1) * m ≤ interference higher ((J + 1) * cycle - 1)
-  filled-on J filled =
-      let last : pred (J + 1) ≡ J = omega arith in
-      let more : J * cycle ≤ (J + 1) * cycle = mul-le-mul-right cycle (omega arith) in
-      let window : J * cycle - 1 ≤ (J + 1) * cycle - 1 = omega arith in
-      rw last (le-trans filled (interference-grows higher window))
 
   -- No number is left: the verdict is late.
   pub searching-end : {tries J : ℕ} {whole : Verdict} → tries < J → searching tries J ≡ whole → Late ≡ whole

@@ -7,11 +7,11 @@ use mathlib.Core.List.{List}
 use Rattle.model.specs.Limits.{maxBudget, maxSlotTicks}
 use Rattle.model.specs.Analysis.{waitFor}
 use Rattle.analysis.specs.Periods.{streamsWith}
-use Rattle.analysis.specs.Search.{Ranges, Suffice}
+use Rattle.analysis.specs.InRange.{Ranges, FoundJ}
 
 module _ {periods : List ℕ} {cycle m ticks deadline J h before : ℕ}
     (ranges : Ranges cycle m ticks deadline)
-    (at : Suffice periods cycle m deadline J h)
+    (at : FoundJ periods cycle m deadline J h)
     (turns : before ≡ pred J * m)
   where
     -- The places of the turns before are all taken.

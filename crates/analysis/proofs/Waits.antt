@@ -14,11 +14,12 @@ use Rattle.model.specs.Analysis.{verdictOf}
 use Rattle.model.specs.Answers.{lateRefusal, waitWord, waitsFrom, nodeWaitsFrom}
 use Rattle.analysis.proofs.Filling.{one-more}
 
--- A late verdict is refused, any other is not.
+-- A late verdict is refused,
 pub late-refused : (k j : ℕ) {v : Verdict} → v ≡ Late → refuse 7 k j ≡ lateRefusal k j v
 unfolding lateRefusal
 late-refused k j e = rw e refl
 
+-- and one that lists a wait is not.
 pub listed-accepted : (k j : ℕ) {v : Verdict} {wait cycles : ℕ} → v ≡ Listed wait cycles → accepted ≡ lateRefusal k j v
 unfolding lateRefusal
 listed-accepted k j e = rw e refl
@@ -32,6 +33,7 @@ module _ (s : List ℕ) (k : ℕ) where
   abbrev pub waitsLeft : ℕ → ℕ → List ℕ
   waitsLeft i count = waitsFrom s k (suc i) (count - i)
 
+  -- Before the first stream all are left.
   pub waits-all : (count : ℕ) → waitsLeft 0 count ≡ waitsFrom s k 1 count
   waits-all count = rw sub-zero refl
 
@@ -44,6 +46,7 @@ module _ (s : List ℕ) (k : ℕ) where
   waits-next i count inside found =
       rw (one-more i count inside, add-one i) (rw (rw (add-one i) at found) refl)
 
+  -- After the last stream none is left.
   pub waits-none : (i count : ℕ) → count ≤ i → waitsLeft i count ≡ []
   unfolding waitsFrom
   waits-none i count past = rw (sub-eq-zero-of-le past) refl
@@ -53,6 +56,7 @@ module _ (s : List ℕ) where
   abbrev pub nodesLeft : ℕ → ℕ → List ℕ
   nodesLeft i n = nodeWaitsFrom s (suc i) (n - i)
 
+  -- Before the first node all are left.
   pub nodes-all : (n : ℕ) → nodesLeft 0 n ≡ nodeWaitsFrom s 1 n
   nodes-all n = rw sub-zero refl
 
@@ -63,6 +67,7 @@ module _ (s : List ℕ) where
   unfolding nodeWaitsFrom
   nodes-next i n inside = rw (one-more i n inside, add-one i) refl
 
+  -- After the last node none is left.
   pub nodes-none : (i n : ℕ) → n ≤ i → nodesLeft i n ≡ []
   unfolding nodeWaitsFrom
   nodes-none i n past = rw (sub-eq-zero-of-le past) refl

@@ -2,7 +2,7 @@
 -- period alone. Assumes nothing.
 use Prim.Native.Nat.{ℕ}
 use mathlib.Core.List.{List, [], _∷_}
-use Rattle.model.specs.Analysis.{Stream}
+use Rattle.model.specs.Analysis.{Stream, streamOf, streamsOf, above}
 
 -- A stream with that number and that least period.
 abbrev pub streamWith : ℕ → ℕ → Stream
@@ -17,3 +17,7 @@ streamsWith (p ∷ ps) = streamWith 0 p ∷ streamsWith ps
 unfoldable pub periodsOf : List Stream → List ℕ
 periodsOf [] = []
 periodsOf (y ∷ ys) = y .period ∷ periodsOf ys
+
+-- The least periods of those ranked above stream j of node k.
+abbrev pub higherPeriods : List ℕ → ℕ → ℕ → List ℕ
+higherPeriods s k j = periodsOf (above (streamOf s k j) (streamsOf s k))

@@ -6,10 +6,10 @@ ghost use lib.ListN.{length, take, drop};
 ghost use Rattle.model.specs.Limits.{maxStreams, maxTime};
 ghost use Rattle.model.specs.Refusal.{success, _orElse_, firstOf};
 ghost use Rattle.model.specs.Sheet.{nodes, budgetsUpTo, cycle as fullCycle, streamCount, totalStreams, period, OnSheet, Valid};
-ghost use Rattle.model.specs.Analysis.{streamOf, streamsOf, outranks, above, interference, verdictAt, search, triesWorth, verdictOf};
+ghost use Rattle.model.specs.Analysis.{outranks, interference, verdictAt, search, triesWorth, verdictOf};
 ghost use Rattle.model.specs.Answers.{unknownRefusal, verdictAnswer, nodeLateRefusal, waitsFrom, listedWaits, bufferAfter, oneStreamAnswer, admitAnswer, admitBuffer};
-ghost use Rattle.analysis.specs.Periods.{streamWith, streamsWith, periodsOf};
-ghost use Rattle.analysis.specs.Search.{Body, Divisors, Ranges, Suffice};
+ghost use Rattle.analysis.specs.Periods.{streamWith, streamsWith, higherPeriods};
+ghost use Rattle.analysis.specs.InRange.{Body, Divisors, Ranges, FoundJ};
 use layout::budget_of;
 use layout::deadline_of;
 use layout::is_outside;
@@ -53,7 +53,7 @@ fn cycle_of(sheet: &[u32]) -> u32
     budgets_up_to(sheet, n) * word_at(sheet, 1) + n * word_at(sheet, 2)
 }
 
-// Priority of a stream with that number and least period over one with another.
+// Priority: a stream with that least period and number is ranked above one with the period `other` and the number `than`.
 fn is_above(period: u32, number: usize, other: u32, than: usize) -> bool
     ensures { λ r. ⌜ r ≡ outranks (streamWith number period) (streamWith than other) ⌝ }
 {
@@ -67,8 +67,9 @@ fn is_above(period: u32, number: usize, other: u32, than: usize) -> bool
     }
 }
 
-// The least periods of those ranked above stream j, in the buffer's first words, and how many they are. The node's body stands at
-// `at`, and `own` is the stream's own period. Each period is stored and only one that is above is kept: no jump depends on it.
+// The least periods of those ranked above stream j of node k in the buffer's first words, and how many they are. The node's body
+// stands at `at` with `count` streams, and `own` is the period of stream j. Each period is stored, and the next takes its place
+// unless it is of a stream above, so that no jump depends on the rank.
 fn collect_above(
     sheet: &[u32],
     k: u32,
@@ -80,7 +81,7 @@ fn collect_above(
 ) -> usize
     requires { ⌜ Body (now sheet) k at count × (own ≡ period (now sheet) k j) × (length (now higher) ≡ maxStreams) ⌝ }
     ensures count { λ r. ⌜ r ≤ maxStreams ⌝ }
-    ensures periods { λ r. ⌜ take r (now (higher .exit)) ≡ periodsOf (above (streamOf (now (sheet .entry)) k j) (streamsOf (now (sheet .entry)) k)) ⌝ }
+    ensures periods { λ r. ⌜ take r (now (higher .exit)) ≡ higherPeriods (now (sheet .entry)) k j ⌝ }
 {
     let mut n: usize = 0;
     let mut i: usize = 0;
@@ -95,18 +96,18 @@ fn collect_above(
     n
 }
 
-// The same of stream j of node k.
+// The same, with what it takes read from the sheet.
 fn higher_periods(sheet: &[u32], k: u32, j: u32, higher: &mut [u32]) -> usize
     requires { ⌜ Valid (now sheet) × OnSheet (now sheet) k j × (length (now higher) ≡ maxStreams) ⌝ }
     ensures count { λ r. ⌜ r ≤ maxStreams ⌝ }
-    ensures periods { λ r. ⌜ take r (now (higher .exit)) ≡ periodsOf (above (streamOf (now (sheet .entry)) k j) (streamsOf (now (sheet .entry)) k)) ⌝ }
+    ensures periods { λ r. ⌜ take r (now (higher .exit)) ≡ higherPeriods (now (sheet .entry)) k j ⌝ }
 {
     let at = wide(place_of(sheet, k));
     let count = wide(stream_count(sheet, k));
     collect_above(sheet, k, wide(j), at, count, period_of(sheet, k, j), higher)
 }
 
-// Interference, "H", of streams with these least periods in a window of w + 1 ticks.
+// Interference, "H", of streams with these least periods, in a window of w + 1 ticks. It passes 32 bits, and no term of it does.
 fn interference_of(periods: &[u32], w: u32) -> u64
     requires { ⌜ Divisors (now periods) × (w ≤ maxTime) ⌝ }
     ensures { λ r. ⌜ r ≡ interference (streamsWith (now (periods .entry))) w ⌝ }
@@ -120,7 +121,7 @@ fn interference_of(periods: &[u32], w: u32) -> u64
     sum
 }
 
-// How many numbers of cycles are worth a try.
+// How many J are worth a try.
 fn tries_worth(cycle: u32, ticks: u32, deadline: u32) -> u32
     requires { ⌜ (0 < cycle) × (deadline ≤ maxTime) ⌝ }
     ensures { λ r. ⌜ r ≡ triesWorth cycle ticks deadline ⌝ }
@@ -132,7 +133,7 @@ fn tries_worth(cycle: u32, ticks: u32, deadline: u32) -> u32
     }
 }
 
-// The verdict at J, where h is the interference in J cycles.
+// The verdict at J, "cycles", where h is the interference in so many.
 fn verdict_at(
     periods: &[u32],
     h: u64,
@@ -142,7 +143,7 @@ fn verdict_at(
     ticks: u32,
     deadline: u32,
 ) -> Verdict
-    requires { ⌜ Ranges cycle budget ticks deadline × Suffice (now periods) cycle budget deadline cycles h ⌝ }
+    requires { ⌜ Ranges cycle budget ticks deadline × FoundJ (now periods) cycle budget deadline cycles h ⌝ }
     ensures { λ r. ⌜ r ≡ verdictAt (streamsWith (now (periods .entry))) cycle budget ticks deadline cycles ⌝ }
 {
     let place = h - long(cycles - 1) * long(budget);
@@ -171,7 +172,7 @@ fn search_from_one(periods: &[u32], cycle: u32, budget: u32, ticks: u32, deadlin
     Verdict::Late
 }
 
-// The verdict on stream j of node k.
+// The verdict on stream j of node k, with the sheet's full cycle.
 fn verdict_on(sheet: &[u32], k: u32, j: u32, cycle: u32) -> Verdict
     requires { ⌜ Valid (now sheet) × OnSheet (now sheet) k j × (cycle ≡ fullCycle (now sheet)) ⌝ }
     ensures { λ r. ⌜ r ≡ verdictOf (now (sheet .entry)) k j ⌝ }
@@ -187,7 +188,7 @@ fn verdict_on(sheet: &[u32], k: u32, j: u32, cycle: u32) -> Verdict
     )
 }
 
-// Refusal 8.
+// Refusal 8 of a stream asked.
 fn check_known(sheet: &[u32], k: u32, j: u32) -> Answer
     ensures { λ r. ⌜ r ≡ unknownRefusal (now (sheet .entry)) k j ⌝ }
 {
@@ -289,9 +290,9 @@ fn judge_nodes(sheet: &[u32], n: u32, cycle: u32, waits: &mut [u32]) -> Answer
     let mut at: usize = 0;
     let mut i: u32 = 0;
     while i < n {
-        let late = judge_node(sheet, i + 1, cycle, &mut waits[at..]);
-        if late.number != 0 {
-            return late;
+        let node = judge_node(sheet, i + 1, cycle, &mut waits[at..]);
+        if node.number != 0 {
+            return node;
         }
         at += wide(stream_count(sheet, i + 1));
         i += 1;
@@ -303,7 +304,7 @@ fn judge_nodes(sheet: &[u32], n: u32, cycle: u32, waits: &mut [u32]) -> Answer
     }
 }
 
-// The values in the room's first words, the rest as it was.
+// The values in the room's first words, and the rest as it was.
 fn copy_in(values: &[u32], room: &mut [u32])
     requires { ⌜ length (now values) ≤ length (now room) ⌝ }
     ensures { λ r. ⌜ now (room .exit) ≡ now (values .entry) ++ drop (length (now (values .entry))) (now (room .entry)) ⌝ }

@@ -3,8 +3,10 @@
 ghost use mathlib.Core.Path.{_≡_};
 ghost use lib.ListN.{length};
 ghost use Rattle.model.specs.Sheet.{sheetRefusal};
-ghost use Rattle.model.specs.Answers.{oneStreamAnswer, admitAnswer, admitBuffer};
+ghost use Rattle.model.specs.Answers.{oneStreamAnswer, admitAnswer, admitBuffer, replayAnswer, replayBuffer, stepAnswer, stepBus, stepBuffer};
+ghost use Rattle.model.specs.Demand.{WholeReplay};
 use model::Answer;
+use model::Bus;
 
 // Refusals 1 to 5 of a sheet, or 0, 0, 0 for a valid one.
 #[no_mangle]
@@ -29,4 +31,38 @@ pub extern "C" fn wistorvan_admit(sheet: &[u32], room: &mut [u32]) -> Answer
     ensures buffer { λ r. ⌜ now (room .exit) ≡ admitBuffer (now (sheet .entry)) (now (room .entry)) ⌝ }
 {
     analysis::admit(sheet, room)
+}
+
+// The replay of a log from tick 0 up to a horizon: turns started, the tick the next would start, and a begin tick for each release
+// in the buffer's first words. Where it is not refused, demand 3 holds of what it answers and writes.
+#[no_mangle]
+pub extern "C" fn wistorvan_replay(
+    sheet: &[u32],
+    log: &[u32],
+    horizon: u32,
+    room: &mut [u32],
+) -> Answer
+    ensures answer { λ r. ⌜ r ≡ replayAnswer (now (sheet .entry)) (now (log .entry)) horizon (length (now (room .entry))) ⌝ }
+    ensures buffer { λ r. ⌜ now (room .exit) ≡ replayBuffer (now (sheet .entry)) (now (log .entry)) horizon (now (room .entry)) ⌝ }
+    ensures demand { λ r. ⌜ (r .number ≡ 0 → WholeReplay (now (sheet .entry)) (now (log .entry)) horizon (r .second) (r .third) (now (room .exit))) ⌝ }
+{
+    bus::replay(sheet, log, horizon, room)
+}
+
+// "One step": changes the lent bus record in place. Thin: the turn itself takes the record by value.
+#[no_mangle]
+pub extern "C" fn wistorvan_step(
+    sheet: &[u32],
+    log: &[u32],
+    rec: &mut Bus,
+    room: &mut [u32],
+) -> Answer
+    ensures numbers { λ r. ⌜ r ≡ stepAnswer (now (sheet .entry)) (now (log .entry)) (now (rec .entry)) (now (room .entry)) ⌝ }
+    ensures record { λ r. ⌜ now (rec .exit) ≡ stepBus (now (sheet .entry)) (now (log .entry)) (now (rec .entry)) (now (room .entry)) ⌝ }
+    ensures buffer { λ r. ⌜ now (room .exit) ≡ stepBuffer (now (sheet .entry)) (now (log .entry)) (now (rec .entry)) (now (room .entry)) ⌝ }
+{
+    let b = *rec;
+    let t = bus::turn(sheet, log, b, room);
+    *rec = t.bus;
+    t.answer
 }

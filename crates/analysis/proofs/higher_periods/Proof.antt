@@ -1,7 +1,9 @@
+-- `analysis::higher_periods` meets its contract: the body is where the sheet has it, and all there.
+-- Assumes nothing.
 use borrow.Author.Needs.{needs}
 use mathlib.Core.Path.{_∙_}
 use Rattle.model.proofs.ValidSheet.{valid-fits}
-use Rattle.analysis.proofs.NodeBody.{body-there}
+use Rattle.analysis.proofs.InRange.{body-there}
 use Rattle.analysis.proofs.higher_periods.Statement.{statement}
 use Rattle.analysis.proofs.higher_periods.Tie as tie
 

@@ -8,13 +8,13 @@ use borrow.Author.Needs.{needs}
 use lib.ListN.{length, getD}
 use Rattle.model.specs.Analysis.{interference}
 use Rattle.analysis.specs.Periods.{streamsWith}
-use Rattle.analysis.proofs.Periods.{rest, rest-on, rest-end}
+use Rattle.analysis.proofs.Periods.{interferenceLeft, interference-next, interference-none}
 use Rattle.analysis.proofs.interference_of.Statement.{statement}
 use Rattle.analysis.proofs.interference_of.Tie as tie
 
 abbrev Inv-loop : tie.InvT-loop
 Inv-loop periods w sum₀ i₀ sum i =
-    (i ≤ length periods) × (sum + rest periods w i ≡ interference (streamsWith periods) w) × (sum ≤ 4294967296 * i)
+    (i ≤ length periods) × (sum + interferenceLeft periods w i ≡ interference (streamsWith periods) w) × (sum ≤ 4294967296 * i)
 
 abbrev μ-loop : tie.MeasureT-loop
 μ-loop periods w sum₀ i₀ sum i = length periods - i
@@ -54,14 +54,14 @@ loop-again c =
     let a = c .before .before .before .before .before .args in
     let l = c .before .before .before .loop in (
       omega arith,
-      rw (c .long .ensures .0) (rest-on (a .periods .now) (a .w) (l .i) (l .sum) (c .before .before .loop-test .taken) (l .inv .1)),
+      rw (c .long .ensures .0) (interference-next (a .periods .now) (a .w) (l .i) (l .sum) (c .before .before .loop-test .taken) (l .inv .1)),
       omega (arith, c .long .ensures .1, l .inv .2),
     )
 
 returns : tie.Need-returns Inv-loop μ-loop
 returns c =
     let a = c .before .before .before .args in
-    rest-end (a .periods .now) (a .w) (c .before .loop .i) (c .before .loop .sum) (c .loop-test .left) (c .before .loop .inv .1)
+    interference-none (a .periods .now) (a .w) (c .before .loop .i) (c .before .loop .sum) (c .loop-test .left) (c .before .loop .inv .1)
 
 pub interference-of-spec : {M : Type 1} → statement M
 interference-of-spec =

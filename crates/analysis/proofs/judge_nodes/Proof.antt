@@ -12,7 +12,7 @@ use Rattle.model.specs.Sheet.{nodes, streamCount, streamsUpTo}
 use Rattle.model.specs.Answers.{nodeLateRefusal, nodeWaitsFrom}
 use Rattle.model.proofs.Refusals.{rest, rest-start, rest-on, rest-stop, rest-end}
 use Rattle.analysis.proofs.Filling.{fill-part, part-length, fill-end}
-use Rattle.analysis.proofs.NodeBody.{streams-next, streams-room}
+use Rattle.analysis.proofs.StreamSums.{streams-next, streams-room}
 use Rattle.analysis.proofs.Waits.{nodesLeft, nodes-all, nodes-next, nodes-none}
 use Rattle.analysis.proofs.judge_nodes.Statement.{statement}
 use Rattle.analysis.proofs.judge_nodes.Tie as tie
@@ -110,7 +110,7 @@ loop-again c =
     let here = c .wide .ensures .0 ∙ c .before .stream-count .ensures in
     let room = free (c .before .before .before .before .before .before .before .before) in (
       omega arith,
-      c .before .before .before .before .before .waits .given .1 ∙ l .inv .1,
+      rw (← l .inv .1) (c .before .before .before .before .before .waits .given .1),
       streams-next s (l .i) (l .inv .2) here,
       rest-on (nodeLateRefusal s) (l .i) _ inside (node .ensures .0) (c .before .before .if1 .left) (l .inv .3),
       rw here

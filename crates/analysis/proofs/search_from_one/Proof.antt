@@ -2,12 +2,12 @@
 -- one cycle fewer are filled.
 -- Assumes nothing.
 use Prim.Native.Nat.{pred, _≤_, _<_, _-_, _+_, _*_}
-use mathlib.Core.Path.{_≡_, ap, _∙_}
-use native.Mathlib.Nat.{one-le-mul, mul-le-mul, le-mul-of-pos-right, le-of-lt}
+use mathlib.Core.Path.{_≡_}
+use native.Mathlib.Nat.{mul-le-mul, mul-le-mul-right, le-mul-of-pos-right, le-of-lt}
 use native.Mathlib.Omega.{arith}
 use borrow.Author.Needs.{needs}
 use Rattle.model.specs.Limits.{maxBudget}
-use Rattle.model.specs.Analysis.{interference, search as search-J}
+use Rattle.model.specs.Analysis.{interference, search as search-J, triesWorth}
 use Rattle.model.proofs.Wait.{worth-try}
 use Rattle.analysis.specs.Periods.{streamsWith}
 use Rattle.analysis.proofs.Searching.{searching, searching-all, searching-found, searching-on, searching-end, filled-on}
@@ -19,7 +19,7 @@ Inv-loop periods cycle budget ticks deadline tries cycles₀ cycles =
     (1 ≤ cycles)
     × (cycles ≤ tries + 1)
     × (searching (streamsWith periods) cycle budget ticks deadline tries cycles
-    ≡ search-J (streamsWith periods) cycle budget ticks deadline tries 1)
+    ≡ search-J (streamsWith periods) cycle budget ticks deadline (triesWorth cycle ticks deadline) 1)
     × (pred cycles * budget ≤ interference (streamsWith periods) (cycles * cycle - 1))
 
 abbrev μ-loop : tie.MeasureT-loop
@@ -33,18 +33,22 @@ loop-holds c =
     let a = c .before .before .args in (
       omega arith,
       omega arith,
-      searching-all (streamsWith (a .periods .now)) (a .cycle) (a .budget) (a .ticks) (a .deadline) (c .tries-worth .result),
+      searching-all (streamsWith (a .periods .now)) (a .cycle) (a .budget) (a .ticks) (a .deadline) (c .tries-worth .ensures),
       omega arith,
     )
 
--- So many cycles are worth a try.
+-- So many cycles are one of the tries,
+tried : (c : tie.In-loop Inv-loop μ-loop) → c .before .loop .cycles ≤ c .before .before .tries-worth .result
+tried c = omega (arith, c .loop-test .taken)
+
+-- and worth it.
 worth : (c : tie.In-loop Inv-loop μ-loop)
     → c .before .loop .cycles * c .before .before .before .before .args .cycle + c .before .before .before .before .args .ticks
     ≤ c .before .before .before .before .args .deadline + 1
 worth c =
     let a = c .before .before .before .before .args in
     let positive : 0 < a .cycle = omega (arith, c .before .before .before .before .pre .1 .cycleFrom) in
-    let few = rw (c .before .before .tries-worth .ensures) at (c .loop-test .taken) in
+    let few = rw (c .before .before .tries-worth .ensures) at (tried c) in
     worth-try (a .ticks) (a .deadline) positive (c .before .loop .inv .0) .0 few
 
 mul-interference-of : tie.Need-mul-interference-of Inv-loop μ-loop
@@ -52,7 +56,8 @@ mul-interference-of c = omega (arith, worth c, c .before .before .before .before
 
 sub-interference-of : tie.Need-sub-interference-of Inv-loop μ-loop
 sub-interference-of c =
-    one-le-mul (c .before .loop .inv .0) (omega (arith, c .before .before .before .before .pre .1 .cycleFrom))
+    let cycle = c .before .before .before .before .args .cycle in
+    omega (arith, mul-le-mul-right cycle (c .before .loop .inv .0), c .before .before .before .before .pre .1 .cycleFrom)
 
 interference-of-requires : tie.Need-interference-of-requires Inv-loop μ-loop
 interference-of-requires c κs =
@@ -94,9 +99,7 @@ returns c =
     rw (c .before .before .before .before .interference-of .ensures, c .before .before .before .long .ensures .0, c .before .before .long2 .ensures .0)
     at (c .before .if1 .taken)
     in
-    c .verdict-at .ensures
-    ∙ searching-found (streamsWith (a .periods .now)) (a .cycle) (a .budget) (a .ticks) (a .deadline) (c .before .before .before .before .before .loop-test .taken) enough (l .inv .2)
-    ∙ ap (λ n. search-J (streamsWith (a .periods .now)) (a .cycle) (a .budget) (a .ticks) (a .deadline) n 1) (c .before .before .before .before .before .before .before .tries-worth .ensures)
+    searching-found (streamsWith (a .periods .now)) (a .cycle) (a .budget) (a .ticks) (a .deadline) (tried (c .before .before .before .before .before)) enough (c .verdict-at .ensures) (l .inv .2)
 
 add-cycles : tie.Need-add-cycles Inv-loop μ-loop
 add-cycles c =
@@ -118,16 +121,15 @@ loop-again c =
     at (c .if1 .left)
     in (
       omega arith,
-      omega (arith, c .before .before .before .before .loop-test .taken),
-      searching-on (streamsWith (a .periods .now)) (a .cycle) (a .budget) (a .ticks) (a .deadline) (c .before .before .before .before .loop-test .taken) filled (l .inv .2),
-      filled-on (streamsWith (a .periods .now)) (a .cycle) (a .budget) (a .ticks) (a .deadline) (l .cycles) filled,
+      omega (arith, tried (c .before .before .before .before)),
+      searching-on (streamsWith (a .periods .now)) (a .cycle) (a .budget) (a .ticks) (a .deadline) (tried (c .before .before .before .before)) filled (l .inv .2),
+      filled-on (streamsWith (a .periods .now)) (a .cycle) (a .budget) (l .cycles) filled,
     )
 
 returns-2 : tie.Need-returns-2 Inv-loop μ-loop
 returns-2 c =
     let a = c .before .before .before .before .args in
     searching-end (streamsWith (a .periods .now)) (a .cycle) (a .budget) (a .ticks) (a .deadline) (c .loop-test .left) (c .before .loop .inv .2)
-    ∙ ap (λ n. search-J (streamsWith (a .periods .now)) (a .cycle) (a .budget) (a .ticks) (a .deadline) n 1) (c .before .before .tries-worth .ensures)
 
 pub search-from-one-spec : {M : Type 1} → statement M
 search-from-one-spec =

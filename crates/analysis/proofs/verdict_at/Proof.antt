@@ -42,7 +42,7 @@ mul-wait c = search needs
 sub-wait : tie.Need-sub-wait
 sub-wait c =
     let p = c .before .before .before .pre in
-    window-least (p .0) (p .1) (before c)
+    omega (arith, window-least (p .0) (p .1) (before c))
 
 cast-wait : tie.Need-cast-wait
 cast-wait c =

@@ -1,11 +1,13 @@
+-- `analysis::verdict_on` meets its contract: the search with the periods of those above is the definition's.
+-- Assumes nothing.
 use borrow.Author.Needs.{needs}
-use mathlib.Core.Path.{sym, _∙_}
+use mathlib.Core.Path.{sym}
 use native.Mathlib.Omega.{arith}
 use lib.Seq.{length-take-le}
 use Rattle.model.specs.Analysis.{streamOf}
 use Rattle.model.proofs.ValidSheet.{valid-fits}
 use Rattle.analysis.proofs.Periods.{verdict-periods}
-use Rattle.analysis.proofs.NodeBody.{above-divisors, stream-ranges}
+use Rattle.analysis.proofs.InRange.{above-divisors, stream-ranges}
 use Rattle.analysis.proofs.verdict_on.Statement.{statement}
 use Rattle.analysis.proofs.verdict_on.Tie as tie
 
@@ -48,9 +50,13 @@ returns : tie.Need-returns
 returns c =
     let a = c .before .before .before .before .before .before .before .before .before .args in
     let p = c .before .before .before .before .before .before .before .before .before .pre in
-    (rw (p .2, c .before .before .before .budget-of .ensures, c .before .before .word-at .ensures, c .before .deadline-of .ensures)
-    at (c .search-from-one .ensures))
-    ∙ verdict-periods (a .sheet .now) (a .k) (a .j) (c .before .before .before .before .before .before .higher-periods .ensures .1)
+    verdict-periods (a .sheet .now) (a .k) (a .j)
+    (c .before .before .before .before .before .before .higher-periods .ensures .1)
+    (p .2)
+    (c .before .before .before .budget-of .ensures)
+    (c .before .before .word-at .ensures)
+    (c .before .deadline-of .ensures)
+    (c .search-from-one .ensures)
 
 pub verdict-on-spec : {M : Type 1} → statement M
 verdict-on-spec =

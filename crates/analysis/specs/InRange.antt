@@ -24,13 +24,12 @@ pub record Divisors (periods : List ℕ) : Type 0 where
 -- A cycle, a budget, the ticks of a message and a deadline as a valid sheet has them.
 pub record Ranges (cycle m ticks deadline : ℕ) : Type 0 where
   pub cycleFrom : 2 ≤ cycle
-  pub cycleTo : cycle ≤ 2_720_000
   pub budgetTo : m ≤ maxBudget
   pub ticksTo : ticks ≤ maxSlotTicks
   pub deadlineTo : deadline ≤ maxTime
 
 -- The search has come to J: h is the interference in J cycles, which J turns have places beyond, and J - 1 turns had not.
-pub record Suffice (periods : List ℕ) (cycle m deadline J h : ℕ) : Type 0 where
+pub record FoundJ (periods : List ℕ) (cycle m deadline J h : ℕ) : Type 0 where
   pub fromOne : 1 ≤ J
   pub cyclesTo : J * cycle ≤ deadline + 1
   pub counted : h ≡ interference (streamsWith periods) (J * cycle - 1)

@@ -1,20 +1,19 @@
--- What a valid sheet gives of one node: where its body stands, that it is all there, and that what the search for J is asked with is
--- in range. Assumes nothing.
+-- A valid sheet gives what specs/InRange has: the body of a node is all there, and what the search for J is asked with is in range.
+-- Assumes nothing.
 use Prim.Native.Nat.{ℕ, zero, suc, _+_, _≤_, _<_}
 use native.Mathlib.Nat.{le-refl, le-trans, le-of-suc-le-suc}
-use native.Mathlib.Numerals.{add-one}
 use native.Mathlib.Omega.{arith}
-use mathlib.Core.Path.{_≡_, refl, ap, ap₂}
+use mathlib.Core.Path.{_≡_, refl, ap}
 use mathlib.Core.Bool.{Bool, true, false, cond}
 use mathlib.Core.List.{List, [], _∷_}
 use lib.ListN.{length, getD}
-use Rattle.model.specs.Sheet.{nodes, messageTicks, place, streamCount, budget, streamsUpTo, totalStreams, period, deadline, cycle, OnSheet}
+use Rattle.model.specs.Sheet.{nodes, messageTicks, place, streamCount, budget, period, deadline, cycle, OnSheet}
 use Rattle.model.specs.Analysis.{Stream, streamOf, streamsFrom, streamsOf, outranks, above}
 use Rattle.model.proofs.ValidSheet.{SheetFits}
-use Rattle.model.proofs.RunningSums.{streams-split, streams-grow, cycle-least, cycle-most}
+use Rattle.model.proofs.RunningSums.{streams-split, streams-grow, cycle-least}
 use Rattle.model.proofs.Interference.{streams-length, above-length}
 use Rattle.analysis.specs.Periods.{periodsOf}
-use Rattle.analysis.specs.Search.{Body, Divisors, Ranges}
+use Rattle.analysis.specs.InRange.{Body, Divisors, Ranges}
 
 -- The body is all there.
 pub body-there : (s : List ℕ) (k : ℕ) {at count : ℕ}
@@ -33,25 +32,13 @@ body-there s k fits low high placed counted =
       there = omega (arith, row .placed, fits .whole, streams-split s k low, streams-grow s k (nodes s) high);
     }
 
--- The streams before the next node and its own are those up to it,
-pub streams-next : (s : List ℕ) (i : ℕ) {sum count : ℕ}
-    → sum ≡ streamsUpTo s i
-    → count ≡ streamCount s (i + 1)
-    → sum + count ≡ streamsUpTo s (i + 1)
-unfolding streamsUpTo
-streams-next s i {sum} {count} e f = rw (add-one i) (ap₂ _+_ e (rw (add-one i) at f))
-
--- and not more than all.
-pub streams-room : (s : List ℕ) (i : ℕ) → i < nodes s → streamsUpTo s i + streamCount s (i + 1) ≤ totalStreams s
-unfolding streamsUpTo
-streams-room s i inside = rw (add-one i) (streams-grow s (suc i) (nodes s) inside)
-
--- The streams of a node above a stream are not too many,
+-- There are as many periods as streams.
 periods-length : (ys : List Stream) → length (periodsOf ys) ≡ length ys
 unfolding periodsOf
 periods-length [] = refl
 periods-length (y ∷ ys) = ap suc (periods-length ys)
 
+-- No period is 0.
 abbrev Positive : List ℕ → Type 0
 Positive ps = (i : ℕ) → i < length ps → 1 ≤ getD ps i 0
 
@@ -60,7 +47,7 @@ positive-more p ps first later zero inside = first
 positive-more p ps first later (suc i) inside = later i (le-of-suc-le-suc inside)
 
 module _ (s : List ℕ) (k : ℕ) (x : Stream) where
-  -- and none has the period 0 where streams j to j + count - 1 of the node have not.
+  -- None of those above has the period 0 where streams j to j + count - 1 of the node have not.
   above-positive : (j count : ℕ)
       → ((i : ℕ) → j ≤ i → i < j + count → 1 ≤ period s k i)
       → Positive (periodsOf (above x (streamsFrom s k j count)))
@@ -73,6 +60,7 @@ module _ (s : List ℕ) (k : ℕ) (x : Stream) where
       go true ys later = positive-more (period s k j) (periodsOf ys) (each j (le-refl j) (omega arith)) later
       go false ys later = later
 
+  -- The least periods of those above are not too many, and none is 0.
   pub above-divisors : SheetFits s → 1 ≤ k → k ≤ nodes s → Divisors (periodsOf (above x (streamsOf s k)))
   above-divisors fits low high =
       record {
@@ -96,7 +84,6 @@ stream-ranges s k j fits on =
     let stream = fits .streams k j on in
     record {
       cycleFrom = cycle-least s fits;
-      cycleTo = cycle-most s fits;
       budgetTo = fits .rows k (on .nodeFrom) (on .nodeTo) .budgetTo;
       ticksTo = fits .header .messageTo;
       deadlineTo = le-trans (stream .deadlineTo) (stream .periodTo);

@@ -1,0 +1,109 @@
+-- The run to a horizon, turn by turn, over a buffer that may be longer than the log: the rest of the run from here equals the
+-- whole, so that a loop can keep it. Assumes nothing.
+use Prim.Native.Nat.{ℕ, zero, suc, _≤_, _<_}
+use mathlib.Core.Path.{_≡_, refl, sym, _∙_, ap}
+use mathlib.Core.List.{List, _++_}
+use native.Mathlib.Nat.{not-suc-le-zero, le-refl}
+use native.Mathlib.Omega.{arith}
+use lib.ListN.{length, take, drop, replicate, take-append-drop}
+use borrow.Author.Tests.{lt-ltb}
+use Rattle.model.specs.declared.Bus.{Bus}
+use Rattle.model.specs.Limits.{notBegun}
+use Rattle.model.specs.Sheet.{slotTicks, budget, Valid}
+use Rattle.model.specs.Protocol.{releases, serveTurn, nextBus, State, turn, start, run, replayed}
+use Rattle.model.proofs.ValidSheet.{valid-fits}
+use Rattle.model.proofs.Waiting.{waiting-begun}
+use Rattle.model.proofs.Serve.{serving, serve-length, serve-kept}
+use Rattle.model.proofs.Clock.{next-range, turn-least}
+use Rattle.model.proofs.Run.{run-on, run-done, run-fuel}
+use Rattle.bus.specs.Queue.{ValidNode, ReleasedBefore, BegunBefore, Window}
+use Rattle.bus.proofs.LongerBuffer.{front-served}
+
+-- The bus between two turns, with the begin words in the front of a buffer.
+abbrev stateIn : List ℕ → Bus → List ℕ → State
+stateIn log bus room = record { bus = bus; begins = take (releases log) room }
+
+-- The run has come to this record and this buffer.
+pub record Running (s log : List ℕ) (horizon : ℕ) (room₀ room : List ℕ) (bus : Bus) (from to : ℕ) : Type 0 where
+  pub reached : run s log horizon horizon (stateIn log bus room) ≡ replayed s log horizon
+  pub rest : drop (releases log) room ≡ drop (releases log) room₀
+  pub sameLength : length room ≡ length room₀
+  pub node : ValidNode s (bus .node)
+  pub turnsTo : bus .turns ≤ bus .tick
+  pub ordered : from ≤ to
+  pub inLog : to ≤ releases log
+  pub begun : BegunBefore room from
+  pub released : ReleasedBefore log (bus .tick) to
+
+module _ (s log : List ℕ) (horizon : ℕ) where
+  -- A turn that starts before the horizon leaves the rest of the run, with the horizon as fuel.
+  run-next : 1 ≤ slotTicks s
+      → (st : State)
+      → st .bus .tick < horizon
+      → run s log horizon horizon st ≡ run s log horizon horizon (turn s log st)
+  run-next slot st early = go horizon refl
+    where
+      go : (fuel : ℕ) → fuel ≡ horizon → run s log horizon fuel st ≡ run s log horizon fuel (turn s log st)
+      go zero same = absurd (omega arith)
+      go (suc fuel) same =
+          run-on s log horizon fuel st (lt-ltb (st .bus .tick) horizon early)
+          ∙ run-fuel s log horizon slot fuel (suc fuel) (turn s log st) (omega (arith, turn-least s log st)) (omega arith)
+
+  -- The run starts with a buffer whose front says that nothing has begun.
+  pub running-start : {room : List ℕ}
+      → Valid s
+      → take (releases log) room ≡ replicate (releases log) notBegun
+      → Running s log horizon room room (record { tick = 0; node = 1; turns = 0 }) 0 0
+  unfolding replayed start
+  running-start valid clear =
+      record {
+        reached = rw clear refl;
+        rest = refl;
+        sameLength = refl;
+        node = record { valid = valid; from = le-refl 1; upTo = valid-fits s valid .header .nodesFrom };
+        turnsTo = le-refl 0;
+        ordered = le-refl 0;
+        inLog = omega arith;
+        begun = λ i below. absurd (not-suc-le-zero below);
+        released = λ i below. absurd (not-suc-le-zero below);
+      }
+
+  -- One turn more.
+  pub running-on : {room₀ room : List ℕ} {bus : Bus} {from to known last : ℕ}
+      → bus .tick < horizon
+      → releases log ≤ length room
+      → Window log (bus .tick) room from to
+      → Running s log horizon room₀ room bus known last
+      → Running s log horizon room₀ (serveTurn s log bus room .begins) (nextBus s bus (serveTurn s log bus room .taken)) from to
+  unfolding nextBus turn
+  running-on {room₀} {room} {bus} {from} {to} early fits window here =
+      let n : ℕ = releases log in
+      let m : ℕ = budget s (bus .node) in
+      let header = valid-fits s (here .node .valid) .header in
+      let served = front-served s log (bus .node) (bus .tick) m room fits in
+      let account = serving s log (bus .node) (bus .tick) m 0 room in
+      let range = next-range s (bus .node) (here .node .from) (here .node .upTo) in
+      record {
+        reached = rw (served .taken, served .front) (sym (run-next (header .slotFrom) (stateIn log bus room) early) ∙ here .reached);
+        rest = served .rest ∙ here .rest;
+        sameLength = serve-length account ∙ here .sameLength;
+        node = record { valid = here .node .valid; from = range .0; upTo = range .1 };
+        turnsTo = omega (arith, here .turnsTo, header .slotFrom);
+        ordered = window .ordered;
+        inLog = window .arrived .inLog;
+        begun = λ i below unbegun.
+            let kept = serve-kept account i (λ _. waiting-begun s log (bus .node) (bus .tick) room i (window .begun i below)) in
+            window .begun i below (sym kept ∙ unbegun);
+        released = λ i below. omega (arith, window .arrived .released i below);
+      }
+
+  -- At the horizon the run is done.
+  pub running-done : {room₀ room : List ℕ} {bus : Bus} {from to : ℕ}
+      → horizon ≤ bus .tick
+      → Running s log horizon room₀ room bus from to
+      → (bus ≡ replayed s log horizon .bus) × (room ≡ replayed s log horizon .begins ++ drop (releases log) room₀)
+  running-done {room₀} {room} {bus} late here =
+      let end = sym (run-done s log horizon horizon (stateIn log bus room) late) ∙ here .reached in (
+        ap (λ st. st .bus) end,
+        rw (← here .rest, ← ap (λ st. st .begins) end) (sym (take-append-drop (releases log) room)),
+      )

@@ -1,0 +1,157 @@
+-- `bus::queue::first_waiting` meets its contract: at each release the scan has found the first in the queue among those before.
+-- Assumes nothing.
+use Prim.Native.Nat.{_-_, _≤_}
+use native.Mathlib.Omega.{arith}
+use mathlib.Core.Path.{_≡_, ap, _∙_}
+use borrow.Author.Needs.{needs}
+use Rattle.model.specs.Protocol.{releaseStream}
+use Rattle.model.proofs.ValidSheet.{valid-fits}
+use Rattle.model.proofs.Waiting.{waiting-begun}
+use Rattle.bus.specs.Queue.{rankKey}
+use Rattle.bus.proofs.FirstWithin.{waiting-below, waiting-above}
+use Rattle.bus.proofs.RankKey.{Own, key-there, key-read}
+use Rattle.bus.proofs.Scan.{Scanned, scan-start, scan-on, scan-end, scan-behind, scan-ahead}
+use Rattle.bus.proofs.queue.first_waiting.Statement.{statement}
+use Rattle.bus.proofs.queue.first_waiting.Tie as tie
+
+abbrev Inv-loop : tie.InvT-loop
+Inv-loop sheet log node tick from to room before last body first₀ first-key₀ i₀ first first-key i =
+    (i ≤ to) × Scanned sheet log node tick room i first first-key
+
+abbrev μ-loop : tie.MeasureT-loop
+μ-loop sheet log node tick from to room before last body first₀ first-key₀ i₀ first first-key i = to - i
+
+streams-of-requires : tie.Need-streams-of-requires Inv-loop μ-loop
+streams-of-requires c κs = c .before .before .before .pre .0 .0
+
+loop-holds : tie.Need-loop-holds Inv-loop μ-loop
+loop-holds c = let window = c .before .before .before .before .pre .1 in (window .ordered, scan-start window)
+
+add-i : tie.Need-add-i Inv-loop μ-loop
+add-i c = omega (arith, c .before .before .before .before .before .before .pre .1 .arrived .inLog)
+
+mul-if1 : tie.Need-mul-if1 Inv-loop μ-loop
+mul-if1 c = omega (arith, c .before .before .before .before .before .before .pre .1 .arrived .inLog)
+
+shared-slice-read-if1 : tie.Need-shared-slice-read-if1 Inv-loop μ-loop
+shared-slice-read-if1 c = omega (arith, c .before .before .before .before .before .before .before .pre .0 .1, c .before .before .before .before .before .before .before .pre .1 .arrived .inLog)
+
+loop-less : tie.Need-loop-less Inv-loop μ-loop
+loop-less c = omega arith
+
+loop-again : tie.Need-loop-again Inv-loop μ-loop
+loop-again c =
+    let a = c .before .before .before .before .before .before .before .before .args in
+    let begun = waiting-begun (a .sheet .now) (a .log .now) (a .node) (a .tick) (a .room .now) _ (c .if1 .taken) in
+    (omega arith, scan-on begun (c .before .before .before .loop .inv .1))
+
+mul-wide : tie.Need-mul-wide Inv-loop μ-loop
+mul-wide c = omega (arith, c .before .before .before .before .before .before .before .before .pre .1 .arrived .inLog)
+
+add-wide : tie.Need-add-wide Inv-loop μ-loop
+add-wide c = omega (arith, c .before .before .before .before .before .before .before .before .pre .1 .arrived .inLog)
+
+mul-wide-2 : tie.Need-mul-wide-2 Inv-loop μ-loop
+mul-wide-2 c = omega (arith, c .before .before .before .before .before .before .before .before .pre .1 .arrived .inLog)
+
+shared-slice-read-wide : tie.Need-shared-slice-read-wide Inv-loop μ-loop
+shared-slice-read-wide c = omega (arith, c .before .before .before .before .before .before .before .before .before .pre .1 .arrived .inLog)
+
+wide-requires : tie.Need-wide-requires Inv-loop μ-loop
+wide-requires c κs = search needs
+
+loop-less-2 : tie.Need-loop-less-2 Inv-loop μ-loop
+loop-less-2 c = omega arith
+
+loop-again-2 : tie.Need-loop-again-2 Inv-loop μ-loop
+loop-again-2 c =
+    let a = c .before .before .before .before .before .before .before .before .before .before .before .args in
+    let before = ap (λ r. r .before) (c .before .before .before .before .before .before .before .streams-of .ensures) in
+    let below = waiting-below (a .sheet .now) (a .log .now) (a .node) (a .tick) (a .room .now) (c .before .before .before .before .before .before .loop .i) (omega (arith, before, c .if2 .taken, c .before .wide .ensures .0)) in
+    (omega arith, scan-on below (c .before .before .before .before .before .before .loop .inv .1))
+
+loop-less-3 : tie.Need-loop-less-3 Inv-loop μ-loop
+loop-less-3 c = omega arith
+
+loop-again-3 : tie.Need-loop-again-3 Inv-loop μ-loop
+loop-again-3 c =
+    let a = c .before .before .before .before .before .before .before .before .before .before .before .before .args in
+    let last = ap (λ r. r .last) (c .before .before .before .before .before .before .before .before .streams-of .ensures) in
+    let above = waiting-above (a .sheet .now) (a .log .now) (a .node) (a .tick) (a .room .now) (c .before .before .before .before .before .before .before .loop .i) (omega (arith, last, c .if3 .taken, c .before .before .wide .ensures .0)) in
+    (omega arith, scan-on above (c .before .before .before .before .before .before .before .loop .inv .1))
+
+-- past the two tests the stream is one of the node's
+own : (c : tie.Else3 Inv-loop μ-loop) → Own (c .before .before .before .before .before .before .before .before .before .before .before .before .args .sheet .now) (c .before .before .before .before .before .before .before .before .before .before .before .before .args .node) (releaseStream (c .before .before .before .before .before .before .before .before .before .before .before .before .args .log .now) (c .before .before .before .before .before .before .before .loop .i))
+own c =
+    let streams = c .before .before .before .before .before .before .before .before .streams-of .ensures in
+    let stream = c .before .before .wide .ensures .0 in
+    (omega (arith, ap (λ r. r .before) streams, stream, c .before .if2 .left), omega (arith, ap (λ r. r .last) streams, stream, c .if3 .left))
+
+rank-key-requires : tie.Need-rank-key-requires Inv-loop μ-loop
+rank-key-requires c κs =
+    let a = c .before .before .before .before .before .before .before .before .before .before .before .before .args in
+    let node = c .before .before .before .before .before .before .before .before .before .before .before .before .pre .0 .0 in
+    let stream = c .before .before .wide .ensures in
+    let there = key-there (a .sheet .now) (valid-fits (a .sheet .now) (node .valid)) (a .node) (node .from) (node .upTo) _ (own c) in
+    (c .before .if2 .left, stream .1, rw (c .before .before .before .before .before .before .before .before .streams-of .ensures, stream .0) there)
+
+-- the key that was read is the stream's
+key : (c : tie.After-rank-key Inv-loop μ-loop) → c .rank-key .result ≡ rankKey (c .before .before .before .before .before .before .before .before .before .before .before .before .before .args .sheet .now) (c .before .before .before .before .before .before .before .before .before .before .before .before .before .args .node) (releaseStream (c .before .before .before .before .before .before .before .before .before .before .before .before .before .args .log .now) (c .before .before .before .before .before .before .before .before .loop .i))
+key c =
+    let a = c .before .before .before .before .before .before .before .before .before .before .before .before .before .args in
+    let node = c .before .before .before .before .before .before .before .before .before .before .before .before .before .pre .0 .0 in
+    (rw (c .before .before .before .before .before .before .before .before .before .streams-of .ensures, c .before .before .before .wide .ensures .0) at (c .rank-key .ensures))
+    ∙ key-read (a .sheet .now) (valid-fits (a .sheet .now) (node .valid)) (a .node) (node .from) (node .upTo) (releaseStream (a .log .now) (c .before .before .before .before .before .before .before .before .loop .i))
+
+loop-less-4 : tie.Need-loop-less-4 Inv-loop μ-loop
+loop-less-4 c = omega arith
+
+loop-again-4 : tie.Need-loop-again-4 Inv-loop μ-loop
+loop-again-4 c =
+    let pre = c .before .before .before .before .before .before .before .before .before .before .before .before .before .before .pre in
+    let inv = c .before .before .before .before .before .before .before .before .before .loop .inv in
+    (omega arith, scan-behind (pre .0 .0) _ (own (c .before .before)) (omega (arith, key (c .before), c .if4 .taken)) (omega (arith, pre .1 .arrived .inLog, c .before .before .before .before .before .before .before .before .loop-test .taken)) (inv .1))
+
+loop-less-5 : tie.Need-loop-less-5 Inv-loop μ-loop
+loop-less-5 c = omega arith
+
+loop-again-5 : tie.Need-loop-again-5 Inv-loop μ-loop
+loop-again-5 c =
+    let pre = c .before .before .before .before .before .before .before .before .before .before .before .before .before .before .pre in
+    let inv = c .before .before .before .before .before .before .before .before .before .loop .inv in
+    let i = c .before .before .before .before .before .before .before .before .before .loop .i in
+    (omega arith, rw (key (c .before)) (scan-ahead (pre .0 .0) i (own (c .before .before)) (pre .1 .arrived .released i (c .before .before .before .before .before .before .before .before .loop-test .taken)) (c .before .before .before .before .before .before .if1 .left) (omega (arith, key (c .before), c .if4 .left)) (inv .1)))
+
+returns : tie.Need-returns Inv-loop μ-loop
+returns c =
+    let window = c .before .before .before .before .before .before .pre .1 in
+    scan-end window (omega (arith, c .loop-test .left, c .before .loop .inv .0)) (c .before .loop .inv .1)
+
+pub first-waiting-spec : {M : Type 1} → statement M
+first-waiting-spec =
+    tie.close
+    (tie.spec
+    Inv-loop
+    μ-loop
+    streams-of-requires
+    loop-holds
+    add-i
+    mul-if1
+    shared-slice-read-if1
+    loop-less
+    loop-again
+    mul-wide
+    add-wide
+    mul-wide-2
+    shared-slice-read-wide
+    wide-requires
+    loop-less-2
+    loop-again-2
+    loop-less-3
+    loop-again-3
+    rank-key-requires
+    loop-less-4
+    loop-again-4
+    loop-less-5
+    loop-again-5
+    returns)

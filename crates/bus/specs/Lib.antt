@@ -1,0 +1,3 @@
+-- What the contracts of the bus cite beside document 01's definitions.
+pub mod Queue
+pub mod Replay

@@ -1,0 +1,46 @@
+-- What a turn is run on, and how a scan of the log finds the first in a node's queue. Assumes nothing.
+use Prim.Native.Nat.{ℕ, suc, _+_, _-_, _*_, _^_, _≤_, _<_}
+use mathlib.Core.Path.{_≡_}
+use mathlib.Core.List.{List}
+use Rattle.model.specs.Limits.{notBegun}
+use Rattle.model.specs.Sheet.{word, nodes, place, period, streamsBefore, streamsUpTo, Valid}
+use Rattle.model.specs.Protocol.{releases, releaseTick}
+use Rattle.bus.specs.declared.queue.Streams.{Streams}
+
+-- k is a node of a valid sheet.
+pub record ValidNode (s : List ℕ) (k : ℕ) : Type 0 where
+  pub valid : Valid s
+  pub from : 1 ≤ k
+  pub upTo : k ≤ nodes s
+
+-- The ticks of a log never fall.
+abbrev pub Rising : List ℕ → Type 0
+Rising log = (i : ℕ) → suc i < releases log → releaseTick log i ≤ releaseTick log (suc i)
+
+-- The first `to` releases are at or before a tick.
+abbrev pub ReleasedBefore : List ℕ → ℕ → ℕ → Type 0
+ReleasedBefore log tick to = (i : ℕ) → i < to → releaseTick log i ≤ tick
+
+-- The releases at or before a tick are the first `to` of the log, and no others.
+pub record Arrived (log : List ℕ) (tick to : ℕ) : Type 0 where
+  pub inLog : to ≤ releases log
+  pub released : ReleasedBefore log tick to
+  pub later : (i : ℕ) → to ≤ i → i < releases log → tick < releaseTick log i
+
+-- Those before `from` have begun.
+abbrev pub BegunBefore : List ℕ → ℕ → Type 0
+BegunBefore room from = (i : ℕ) → i < from → word room i ≡ notBegun → ⊥
+
+-- Whoever waits at a tick stands in the log at `from` or after it and before `to`.
+pub record Window (log : List ℕ) (tick : ℕ) (room : List ℕ) (from to : ℕ) : Type 0 where
+  pub ordered : from ≤ to
+  pub begun : BegunBefore room from
+  pub arrived : Arrived log tick to
+
+-- What a scan keeps of node k's streams.
+abbrev pub streamsAs : List ℕ → ℕ → Streams
+streamsAs s k = record { before = streamsBefore s k; last = streamsUpTo s k; body = place s k }
+
+-- Rank as one number: of two streams of node k, by running number, the one with the lower key is ranked above.
+unfoldable pub rankKey : List ℕ → ℕ → ℕ → ℕ
+rankKey s k r = period s k (r - streamsBefore s k) * 2 ^ 32 + r

@@ -1,0 +1,96 @@
+// The log reader: refusal 9 with its place, for any words.
+ghost use mathlib.Core.Path.{_≡_};
+ghost use mathlib.Core.Bool.{_||_};
+ghost use Prim.Native.Nat.{_+_, _<_, _≤_};
+ghost use lib.Dec.{ltb};
+ghost use Rattle.model.specs.Limits.{maxTime, maxReleases};
+ghost use Rattle.model.specs.Refusal.{outside, firstOf};
+ghost use Rattle.model.specs.Sheet.{totalStreams};
+ghost use Rattle.model.specs.Protocol.{releases, releaseTick, releaseStream};
+ghost use Rattle.model.specs.Answers.{tickBefore, releaseRefusal, logRefusal};
+use model::Answer;
+
+// A tick too large, a falling tick or a stream unknown in release i, counted from 0, where `before` is the tick before it.
+fn release_is_wrong(log: &[u32], i: usize, before: u32, streams: usize) -> bool
+    requires { ⌜ i < releases (now log) ⌝ }
+    ensures { λ r. ⌜ r ≡ (ltb maxTime (releaseTick (now (log .entry)) i) || ltb (releaseTick (now (log .entry)) i) before || outside 1 streams (releaseStream (now (log .entry)) i)) ⌝ }
+{
+    let tick = log[2 * i];
+    if 1000000000 < tick {
+        return true;
+    }
+    if tick < before {
+        return true;
+    }
+    let stream = layout::wide(log[2 * i + 1]);
+    if stream < 1 {
+        return true;
+    }
+    streams < stream
+}
+
+// Refusal 9 of the release after i others.
+fn check_release(sheet: &[u32], log: &[u32], i: usize, before: u32, streams: usize) -> Answer
+    requires { ⌜ (i < releases (now log)) × (releases (now log) ≤ maxReleases) ⌝ }
+    requires { ⌜ (before ≡ tickBefore (now log) (i + 1)) × (streams ≡ totalStreams (now sheet)) ⌝ }
+    ensures { λ r. ⌜ r ≡ releaseRefusal (now (sheet .entry)) (now (log .entry)) (i + 1) ⌝ }
+{
+    if release_is_wrong(log, i, before, streams) {
+        Answer {
+            number: 9,
+            second: 0,
+            third: (i + 1) as u32,
+        }
+    } else {
+        Answer {
+            number: 0,
+            second: 0,
+            third: 0,
+        }
+    }
+}
+
+// Refusal 9 of the first release that has a fault.
+fn check_releases(sheet: &[u32], log: &[u32]) -> Answer
+    requires { ⌜ releases (now log) ≤ maxReleases ⌝ }
+    ensures { λ r. ⌜ r ≡ firstOf (releaseRefusal (now (sheet .entry)) (now (log .entry))) 1 (releases (now (log .entry))) ⌝ }
+{
+    let streams = layout::streams_up_to(sheet, layout::word_at(sheet, 0));
+    let count = log.len() / 2;
+    let mut before: u32 = 0;
+    let mut i: usize = 0;
+    while i < count {
+        let release = check_release(sheet, log, i, before, streams);
+        if release.number != 0 {
+            return release;
+        }
+        before = log[2 * i];
+        i += 1;
+    }
+    Answer {
+        number: 0,
+        second: 0,
+        third: 0,
+    }
+}
+
+// Refusal 9 of a log, or 0, 0, 0 where it has none.
+pub fn check_log(sheet: &[u32], log: &[u32]) -> Answer
+    ensures { λ r. ⌜ r ≡ logRefusal (now (sheet .entry)) (now (log .entry)) ⌝ }
+{
+    if log.len() % 2 != 0 {
+        return Answer {
+            number: 9,
+            second: 0,
+            third: 0,
+        };
+    }
+    if 4096 < log.len() / 2 {
+        return Answer {
+            number: 9,
+            second: 0,
+            third: 0,
+        };
+    }
+    check_releases(sheet, log)
+}

@@ -1,0 +1,109 @@
+// One turn, the record after it, and the run of turns to a horizon, on input that has been checked.
+ghost use mathlib.Core.Path.{_≡_};
+ghost use Prim.Native.Nat.{_≤_};
+ghost use mathlib.Core.List.{_++_};
+ghost use lib.ListN.{length, take, drop, replicate};
+ghost use Rattle.model.specs.Limits.{maxTime, maxBudget, notBegun};
+ghost use Rattle.model.specs.Sheet.{Valid};
+ghost use Rattle.model.specs.Protocol.{releases, serveTurn, nextNode, nextBus, replayed};
+ghost use Rattle.bus.specs.Queue.{ValidNode, Rising, Window};
+use crate::queue::arrived_by;
+use crate::queue::begun_before;
+use crate::queue::first_waiting;
+use model::Bus;
+
+// The record's turn: writes the begin ticks of the messages that it takes, and answers how many those are.
+pub fn run_turn(
+    sheet: &[u32],
+    log: &[u32],
+    bus: Bus,
+    from: usize,
+    to: usize,
+    room: &mut [u32],
+) -> u32
+    requires { ⌜ ValidNode (now sheet) (bus .node) × (bus .tick ≤ maxTime) × (releases (now log) ≤ length (now room)) ⌝ }
+    requires { ⌜ Window (now log) (bus .tick) (now room) from to ⌝ }
+    ensures taken { λ r. ⌜ r ≡ serveTurn (now (sheet .entry)) (now (log .entry)) bus (now (room .entry)) .taken ⌝ }
+    ensures begins { λ r. ⌜ now (room .exit) ≡ serveTurn (now (sheet .entry)) (now (log .entry)) bus (now (room .entry)) .begins ⌝ }
+{
+    let node = bus.node;
+    let tick = bus.tick;
+    let budget = layout::budget_of(sheet, node);
+    let message = layout::word_at(sheet, 1);
+    let count = log.len() / 2;
+    let mut begin = tick;
+    let mut j: u32 = 0;
+    while j < budget {
+        let i = first_waiting(sheet, log, node, tick, from, to, &room[..]);
+        if count <= i {
+            return j;
+        }
+        room[i] = begin;
+        begin += message;
+        j += 1;
+    }
+    j
+}
+
+// The node after k.
+fn next_node(sheet: &[u32], k: u32) -> u32
+    requires { ⌜ ValidNode (now sheet) k ⌝ }
+    ensures { λ r. ⌜ r ≡ nextNode (now (sheet .entry)) k ⌝ }
+{
+    if k == layout::word_at(sheet, 0) {
+        1
+    } else {
+        k + 1
+    }
+}
+
+// The record after a turn that took so many messages.
+pub fn next_bus(sheet: &[u32], bus: Bus, taken: u32) -> Bus
+    requires { ⌜ ValidNode (now sheet) (bus .node) × (bus .tick ≤ maxTime) × (bus .turns ≤ maxTime) × (taken ≤ maxBudget) ⌝ }
+    ensures { λ r. ⌜ r ≡ nextBus (now (sheet .entry)) bus taken ⌝ }
+{
+    let node = next_node(sheet, bus.node);
+    let message = layout::word_at(sheet, 1);
+    let slot = layout::word_at(sheet, 2);
+    Bus {
+        tick: bus.tick + taken * message + slot,
+        node,
+        turns: bus.turns + 1,
+    }
+}
+
+// Marks the first `count` releases as not begun.
+pub fn clear(room: &mut [u32], count: usize)
+    requires { ⌜ count ≤ length (now room) ⌝ }
+    ensures { λ _. ⌜ now (room .exit) ≡ replicate count notBegun ++ drop count (now (room .entry)) ⌝ }
+{
+    let mut i: usize = 0;
+    while i < count {
+        room[i] = 4294967295;
+        i += 1;
+    }
+}
+
+// The turns that start before the horizon, from tick 0 with nothing sent: writes the begin ticks, and answers the record after
+// the last.
+pub fn run_to(sheet: &[u32], log: &[u32], horizon: u32, room: &mut [u32]) -> Bus
+    requires { ⌜ Valid (now sheet) × Rising (now log) × (horizon ≤ maxTime) × (releases (now log) ≤ length (now room)) ⌝ }
+    requires { ⌜ take (releases (now log)) (now room) ≡ replicate (releases (now log)) notBegun ⌝ }
+    ensures record { λ r. ⌜ r ≡ replayed (now (sheet .entry)) (now (log .entry)) horizon .bus ⌝ }
+    ensures begins { λ r. ⌜ now (room .exit) ≡ replayed (now (sheet .entry)) (now (log .entry)) horizon .begins ++ drop (releases (now (log .entry))) (now (room .entry)) ⌝ }
+{
+    let mut bus = Bus {
+        tick: 0,
+        node: 1,
+        turns: 0,
+    };
+    let mut from: usize = 0;
+    let mut to: usize = 0;
+    while bus.tick < horizon {
+        to = arrived_by(log, bus.tick, to);
+        from = begun_before(&room[..], from, to);
+        let taken = run_turn(sheet, log, bus, from, to, room);
+        bus = next_bus(sheet, bus, taken);
+    }
+    bus
+}
