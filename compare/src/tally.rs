@@ -1,6 +1,7 @@
 //! What was compared, how often each answer occurred, and what differed.
 
 use std::collections::BTreeMap;
+use std::fmt::Debug;
 
 use peer::generate::Case;
 
@@ -8,7 +9,7 @@ use peer::generate::Case;
 type Kind = (&'static str, u32, &'static str);
 
 /// The answers that a run of some thousand cases must have met.
-const EXPECTED: [Kind; 44] = [
+const EXPECTED: [Kind; 62] = [
     ("sheet", 0, "success"),
     ("sheet", 1, "0 0"),
     ("sheet", 2, "0 0"),
@@ -53,6 +54,24 @@ const EXPECTED: [Kind; 44] = [
     ("step", 9, "0 and a number"),
     ("step", 16, "0 0"),
     ("replay as steps", 0, "success"),
+    ("admit program", 0, "success"),
+    ("admit program", 1, "0 0"),
+    ("admit program", 2, "0 0"),
+    ("admit program", 3, "0 0"),
+    ("admit program", 4, "0 0"),
+    ("admit program", 4, "node 0"),
+    ("admit program", 5, "node stream"),
+    ("admit program", 7, "node stream"),
+    ("replay program", 0, "success"),
+    ("replay program", 1, "0 0"),
+    ("replay program", 2, "0 0"),
+    ("replay program", 3, "0 0"),
+    ("replay program", 4, "0 0"),
+    ("replay program", 4, "node 0"),
+    ("replay program", 5, "node stream"),
+    ("replay program", 9, "0 0"),
+    ("replay program", 9, "0 and a number"),
+    ("replay program", 10, "0 0"),
 ];
 
 fn place(answer: (u32, u32, u32)) -> &'static str {
@@ -65,11 +84,12 @@ fn place(answer: (u32, u32, u32)) -> &'static str {
     }
 }
 
-/// What an entry answered and what it left in the words lent to it.
-#[derive(PartialEq, Eq, Debug)]
-pub struct Outcome {
+/// What an entry answered and what it left: the words lent to it, or what a
+/// program wrote.
+#[derive(Clone, PartialEq, Eq, Debug)]
+pub struct Outcome<Left = Vec<u32>> {
     pub answer: (u32, u32, u32),
-    pub words: Vec<u32>,
+    pub left: Left,
 }
 
 #[derive(Default)]
@@ -85,13 +105,13 @@ impl Tally {
     }
 
     /// Counts one answer, and says where the two programs differ.
-    pub fn compare(
+    pub fn compare<Left: PartialEq + Debug>(
         &mut self,
         entry: &'static str,
         name: &str,
         case: &Case,
-        proved: Outcome,
-        second: Outcome,
+        proved: &Outcome<Left>,
+        second: &Outcome<Left>,
     ) {
         let kind = (entry, second.answer.0, place(second.answer));
         *self.answers.entry(kind).or_default() += 1;
@@ -104,16 +124,14 @@ impl Tally {
         }
     }
 
-    pub fn report(&self) {
+    /// Prints the counts and answers whether there was no difference and, in
+    /// a whole run, every expected kind of answer.
+    pub fn report(&self, whole: bool) -> bool {
         println!("cases {}", self.cases);
         for ((entry, number, place), times) in &self.answers {
             println!("{entry} {number} ({place}) {times}");
         }
         println!("differences {}", self.differences);
-    }
-
-    /// No difference, and every kind of answer met.
-    pub fn is_good(&self, whole: bool) -> bool {
         let missing: Vec<&Kind> = EXPECTED
             .iter()
             .filter(|kind| whole && !self.answers.contains_key(*kind))

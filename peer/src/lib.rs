@@ -6,6 +6,7 @@
 //! changes no lent word.
 
 mod admission;
+pub mod broken;
 pub mod generate;
 mod log;
 mod replay;

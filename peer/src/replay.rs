@@ -14,7 +14,7 @@ const NEVER: u64 = u64::MAX;
 /// First-in first-out queues, linked through the log's release indices.
 /// A queue holds future releases too: ticks never fall, so its head is the
 /// first to be released and alone tells whether anything waits.
-struct Queues<'a> {
+pub(crate) struct Queues<'a> {
     log: &'a [u32],
     head: [u16; MOST_STREAMS],
     next: [u16; MOST_RELEASES],
@@ -36,14 +36,14 @@ impl<'a> Queues<'a> {
         queues
     }
 
-    fn head_tick(&self, stream: usize) -> u64 {
+    pub fn head_tick(&self, stream: usize) -> u64 {
         match self.head[stream] {
             END => NEVER,
             release => u64::from(self.log[2 * release as usize]),
         }
     }
 
-    fn pop(&mut self, stream: usize) -> usize {
+    pub fn pop(&mut self, stream: usize) -> usize {
         let release = self.head[stream] as usize;
         self.head[stream] = self.next[release];
         release
@@ -51,17 +51,17 @@ impl<'a> Queues<'a> {
 }
 
 /// A bus in operation.
-struct Operation<'a> {
-    bus: &'a Bus,
-    queues: Queues<'a>,
+pub(crate) struct Operation<'a> {
+    pub bus: &'a Bus,
+    pub queues: Queues<'a>,
     /// Streams of each node, first served first.
-    order: [[usize; MOST_STREAMS_A_NODE]; MOST_NODES],
+    pub order: [[usize; MOST_STREAMS_A_NODE]; MOST_NODES],
     /// Earliest release still to begin, a node: makes a silent turn cheap.
-    earliest: [u64; MOST_NODES],
+    pub earliest: [u64; MOST_NODES],
 }
 
 impl<'a> Operation<'a> {
-    fn new(bus: &'a Bus, log: &'a [u32]) -> Operation<'a> {
+    pub fn new(bus: &'a Bus, log: &'a [u32]) -> Operation<'a> {
         let mut operation = Operation {
             bus,
             queues: Queues::deal(log),
@@ -91,7 +91,7 @@ impl<'a> Operation<'a> {
     /// One turn of a node that has something waiting; answers how many it took.
     /// Kept out of line so that the loop over silent turns stays small.
     #[inline(never)]
-    fn serve(&mut self, node: usize, start: u64, room: &mut [u32]) -> u64 {
+    pub fn serve(&mut self, node: usize, start: u64, room: &mut [u32]) -> u64 {
         let budget = self.bus.nodes()[node].budget as u64;
         let count = self.bus.nodes()[node].count;
         let mut taken = 0;
@@ -126,22 +126,30 @@ impl<'a> Operation<'a> {
     }
 }
 
-/// Replays a log from tick 0 up to the horizon and writes the begin ticks.
-pub fn replay(sheet: &[u32], log: &[u32], horizon: u32, room: &mut [u32]) -> Answer {
-    let bus = match Bus::read(sheet) {
-        Ok(bus) => bus,
-        Err(answer) => return answer,
-    };
-    let releases = match check_log(log, bus.streams().len()) {
-        Ok(releases) => releases,
-        Err(answer) => return answer,
-    };
+/// The bus and the number of releases of what a replay accepts.
+pub(crate) fn check(
+    sheet: &[u32],
+    log: &[u32],
+    horizon: u32,
+    room: &[u32],
+) -> Result<(Bus, usize), Answer> {
+    let bus = Bus::read(sheet)?;
+    let releases = check_log(log, bus.streams().len())?;
     if horizon > LAST_TICK {
-        return refusal(10, 0, 0);
+        return Err(refusal(10, 0, 0));
     }
     if room.len() < releases {
-        return refusal(6, 0, 0);
+        return Err(refusal(6, 0, 0));
     }
+    Ok((bus, releases))
+}
+
+/// Replays a log from tick 0 up to the horizon and writes the begin ticks.
+pub fn replay(sheet: &[u32], log: &[u32], horizon: u32, room: &mut [u32]) -> Answer {
+    let (bus, releases) = match check(sheet, log, horizon, room) {
+        Ok(accepted) => accepted,
+        Err(answer) => return answer,
+    };
     room[..releases].fill(NOT_BEGUN);
     let (turns, next) = Operation::new(&bus, log).run(u64::from(horizon), room);
     success(turns, next)

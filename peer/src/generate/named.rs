@@ -219,6 +219,20 @@ fn refused() -> Vec<Named> {
     ]
 }
 
+/// One word of a good sheet just out of its range.
+fn out_of_range() -> Vec<Named> {
+    let small_with = |place: usize, word: u32| {
+        let mut sheet = SMALL.to_vec();
+        sheet[place] = word;
+        plain(sheet, vec![0, 1], 40)
+    };
+    vec![
+        ("seventeen nodes", small_with(0, 17)),
+        ("a slot of 10001 ticks", small_with(2, 10_001)),
+        ("a deadline above the period", small_with(12, 61)),
+    ]
+}
+
 pub fn named() -> Vec<Named> {
     [
         many_turns(),
@@ -227,6 +241,7 @@ pub fn named() -> Vec<Named> {
         large_sheets(),
         large_logs(),
         refused(),
+        out_of_range(),
     ]
     .concat()
 }

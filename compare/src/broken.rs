@@ -1,0 +1,92 @@
+//! The proved library against variants of the second program that make the
+//! errors listed in document 01. Each of them has to differ somewhere.
+
+use peer::broken;
+use peer::generate::{case, Case};
+
+use crate::tally::Outcome;
+use crate::{proved, second};
+
+enum Entry {
+    Admit(fn(&[u32], &mut [u32]) -> peer::Answer),
+    Replay(fn(&[u32], &[u32], u32, &mut [u32]) -> peer::Answer),
+}
+
+const VARIANTS: [(&str, Entry); 5] = [
+    (
+        "1, releases counted by ceiling",
+        Entry::Admit(broken::admit_by_ceiling),
+    ),
+    (
+        "2, a release during a turn joins it",
+        Entry::Replay(broken::replay_joining),
+    ),
+    (
+        "3, one release of each stream above",
+        Entry::Admit(broken::admit_one_release_each),
+    ),
+    (
+        "4, no slot for a silent node",
+        Entry::Replay(broken::replay_without_silent_slots),
+    ),
+    (
+        "5, waits written before a late stream is found",
+        Entry::Admit(broken::admit_writing_early),
+    ),
+];
+
+/// For each variant, what the library and the variant give if they differ.
+fn differences(case: &Case) -> [Option<(Outcome, Outcome)>; 5] {
+    let (sheet, log, horizon) = (&case.sheet, &case.log, case.horizon);
+    let admit = proved(&case.room, |room| wistorvan::admit(sheet, room));
+    let replay = proved(&case.room, |room| {
+        wistorvan::replay(sheet, log, horizon, room)
+    });
+    VARIANTS.each_ref().map(|(_, entry)| {
+        let (good, bad) = match entry {
+            Entry::Admit(entry) => (&admit, second(&case.room, |room| entry(sheet, room))),
+            Entry::Replay(entry) => (
+                &replay,
+                second(&case.room, |room| entry(sheet, log, horizon, room)),
+            ),
+        };
+        (*good != bad).then(|| (good.clone(), bad))
+    })
+}
+
+/// Whether each variant was caught.
+pub fn run(seed: u64, count: u64) -> bool {
+    let mut caught = [(0u64, None); 5];
+    for index in 0..count {
+        let found = differences(&case(seed, index));
+        for ((times, first), _) in caught.iter_mut().zip(found).filter(|(_, it)| it.is_some()) {
+            *times += 1;
+            first.get_or_insert(index);
+        }
+    }
+    for ((error, _), (times, first)) in VARIANTS.iter().zip(caught) {
+        match first {
+            Some(index) => println!(
+                "error {error}: {times} of {count} cases differ, \
+                 first case {index}: `compare {seed} {index} broken one`"
+            ),
+            None => println!("error {error}: never caught"),
+        }
+    }
+    caught.iter().all(|(times, _)| *times > 0)
+}
+
+/// Shows one case again; whether any variant is caught on it.
+pub fn one(seed: u64, index: u64) -> bool {
+    let case = case(seed, index);
+    let found = differences(&case);
+    for ((error, _), difference) in VARIANTS.iter().zip(&found) {
+        if let Some((good, bad)) = difference {
+            println!("error {error}: differs");
+            println!("  proved {good:?}");
+            println!("  broken {bad:?}");
+        }
+    }
+    println!("on {case:?}");
+    found.iter().any(Option::is_some)
+}

@@ -1,0 +1,154 @@
+//! The five errors that document 01 has seen in fitters' sheets, each made on
+//! purpose, so that a comparison can show that it catches them. All else is
+//! as in the good program.
+
+use crate::admission::{last_try, listed};
+use crate::replay::{check, Operation};
+use crate::sheet::Bus;
+use crate::{refusal, success, Answer, NOT_BEGUN};
+
+/// A bus whose clock may stand still is given up after so many turns.
+pub const MOST_TURNS: u64 = 100_000;
+
+/// Error 1: counts releases by ceiling, without the one at the last tick.
+pub fn admit_by_ceiling(sheet: &[u32], room: &mut [u32]) -> Answer {
+    admit_counting(sheet, room, |window, period| window.div_ceil(period))
+}
+
+/// Error 2: a message released during a turn joins it.
+pub fn replay_joining(sheet: &[u32], log: &[u32], horizon: u32, room: &mut [u32]) -> Answer {
+    let (bus, releases) = match check(sheet, log, horizon, room) {
+        Ok(accepted) => accepted,
+        Err(answer) => return answer,
+    };
+    room[..releases].fill(NOT_BEGUN);
+    let operation = &mut Operation::new(&bus, log);
+    run(operation, horizon, u64::MAX, |operation, node, start| {
+        serve_joining(operation, node, start, room) * bus.message_ticks + bus.slot_ticks
+    })
+}
+
+/// Error 3: counts one release of each stream above and none that come while
+/// the stream waits.
+pub fn admit_one_release_each(sheet: &[u32], room: &mut [u32]) -> Answer {
+    admit_counting(sheet, room, |_, _| 1)
+}
+
+/// Error 4: a silent node has no protocol slot. Stops after `MOST_TURNS`.
+pub fn replay_without_silent_slots(
+    sheet: &[u32],
+    log: &[u32],
+    horizon: u32,
+    room: &mut [u32],
+) -> Answer {
+    let (bus, releases) = match check(sheet, log, horizon, room) {
+        Ok(accepted) => accepted,
+        Err(answer) => return answer,
+    };
+    room[..releases].fill(NOT_BEGUN);
+    let operation = &mut Operation::new(&bus, log);
+    run(operation, horizon, MOST_TURNS, |operation, node, start| {
+        if operation.earliest[node] > start {
+            return 0;
+        }
+        operation.serve(node, start, room) * bus.message_ticks + bus.slot_ticks
+    })
+}
+
+/// Error 5: writes each wait as it is found, even if a later stream is late.
+pub fn admit_writing_early(sheet: &[u32], room: &mut [u32]) -> Answer {
+    let bus = match check_admit(sheet, room) {
+        Ok(bus) => bus,
+        Err(answer) => return answer,
+    };
+    for stream in 0..bus.streams().len() {
+        match listed(&bus, stream) {
+            Some(found) => room[stream] = found.wait as u32,
+            None => return late(&bus, stream),
+        }
+    }
+    success(bus.streams().len() as u64, bus.cycle())
+}
+
+/// The refusals of admit before the waits.
+fn check_admit(sheet: &[u32], room: &[u32]) -> Result<Bus, Answer> {
+    let bus = Bus::read(sheet)?;
+    match room.len() < bus.streams().len() {
+        true => Err(refusal(6, 0, 0)),
+        false => Ok(bus),
+    }
+}
+
+fn late(bus: &Bus, stream: usize) -> Answer {
+    let (node, number) = bus.place(stream);
+    refusal(7, node, number)
+}
+
+/// Admits with another count of releases, given a window and a period.
+fn admit_counting(sheet: &[u32], room: &mut [u32], count: fn(u64, u64) -> u64) -> Answer {
+    let bus = match check_admit(sheet, room) {
+        Ok(bus) => bus,
+        Err(answer) => return answer,
+    };
+    let mut waits = Vec::new();
+    for stream in 0..bus.streams().len() {
+        match wait_counting(&bus, stream, count) {
+            Some(wait) => waits.push(wait as u32),
+            None => return late(&bus, stream),
+        }
+    }
+    room[..waits.len()].copy_from_slice(&waits);
+    success(waits.len() as u64, bus.cycle())
+}
+
+fn wait_counting(bus: &Bus, stream: usize, count: fn(u64, u64) -> u64) -> Option<u64> {
+    let node = &bus.nodes()[bus.streams()[stream].node];
+    let (cycle, budget) = (bus.cycle(), node.budget as u64);
+    let above: Vec<u64> = (node.first..node.first + node.count)
+        .filter(|&other| bus.priority(other) < bus.priority(stream))
+        .map(|other| u64::from(bus.streams()[other].period))
+        .collect();
+    let releases = |window: u64| -> u64 { above.iter().map(|&p| count(window, p)).sum() };
+    // No count falls as the window grows, so this bound holds here too.
+    let cycles = (1..=last_try(bus, stream)).find(|j| releases(j * cycle - 1) < j * budget)?;
+    let window = cycles * cycle - 1;
+    let wait = window + (releases(window) - (cycles - 1) * budget) * bus.message_ticks;
+    let deadline = u64::from(bus.streams()[stream].deadline);
+    (wait + bus.message_ticks <= deadline).then_some(wait)
+}
+
+/// As in the good program, but for what one turn does: `turn` is handed the
+/// node and the start tick and answers how many ticks go by.
+fn run(
+    operation: &mut Operation,
+    horizon: u32,
+    most_turns: u64,
+    mut turn: impl FnMut(&mut Operation, usize, u64) -> u64,
+) -> Answer {
+    let nodes = operation.bus.nodes().len();
+    let (mut tick, mut node, mut turns) = (0, 0, 0);
+    while tick < u64::from(horizon) && turns < most_turns {
+        tick += turn(operation, node, tick);
+        turns += 1;
+        node = (node + 1) % nodes;
+    }
+    success(turns, tick)
+}
+
+/// Looks at the queue again before each message of the turn.
+fn serve_joining(operation: &mut Operation, node: usize, start: u64, room: &mut [u32]) -> u64 {
+    let budget = operation.bus.nodes()[node].budget as u64;
+    let count = operation.bus.nodes()[node].count;
+    let mut taken = 0;
+    while taken < budget {
+        let now = start + taken * operation.bus.message_ticks;
+        let queues = &operation.queues;
+        let mut order = operation.order[node][..count].iter();
+        let Some(&stream) = order.find(|&&stream| queues.head_tick(stream) <= now) else {
+            break;
+        };
+        room[operation.queues.pop(stream)] = now as u32;
+        taken += 1;
+    }
+    taken
+}
