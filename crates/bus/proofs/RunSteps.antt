@@ -1,11 +1,14 @@
 -- The run to a horizon, turn by turn, over a buffer that may be longer than the log: the rest of the run from here equals the
 -- whole, so that a loop can keep it. Assumes nothing.
-use Prim.Native.Nat.{ℕ, zero, suc, _≤_, _<_}
+use Prim.Native.Nat.{ℕ, zero, suc, pred, _+_, _≤_, _<_}
 use mathlib.Core.Path.{_≡_, refl, sym, _∙_, ap}
+use mathlib.Core.Logic.{by-cases}
 use mathlib.Core.List.{List, _++_}
-use native.Mathlib.Nat.{not-suc-le-zero, le-refl}
+use native.Mathlib.Nat.{not-suc-le-zero, le-refl, mod-lt}
+use native.Mathlib.Decide.{decLt}
 use native.Mathlib.Omega.{arith}
 use lib.ListN.{length, take, drop, replicate, take-append-drop}
+use lib.Seq.{getD-take}
 use borrow.Author.Tests.{lt-ltb}
 use Rattle.model.specs.declared.Bus.{Bus}
 use Rattle.model.specs.Limits.{notBegun}
@@ -16,7 +19,9 @@ use Rattle.model.proofs.Waiting.{waiting-begun}
 use Rattle.model.proofs.Serve.{serving, serve-length, serve-kept}
 use Rattle.model.proofs.Clock.{next-range, turn-least}
 use Rattle.model.proofs.Run.{run-on, run-done, run-fuel}
-use Rattle.bus.specs.Queue.{ValidNode, ReleasedBefore, BegunBefore, Window}
+use Rattle.model.proofs.Idle.{Quiet, run-idle, silent-before}
+use Rattle.model.specs.Idle.{idleBus, silentTurns}
+use Rattle.bus.specs.Queue.{ValidNode, ReleasedBefore, BegunBefore, Window, NextEvent}
 use Rattle.bus.proofs.LongerBuffer.{front-served}
 
 -- The bus between two turns, with the begin words in the front of a buffer.
@@ -34,6 +39,17 @@ pub record Running (s log : List ℕ) (horizon : ℕ) (room₀ room : List ℕ) 
   pub inLog : to ≤ releases log
   pub begun : BegunBefore room from
   pub released : ReleasedBefore log (bus .tick) to
+
+-- Where all that has come has begun, no release before the next event is left in the buffer's front.
+quiet-front : {log room : List ℕ} {horizon tick from to until : ℕ}
+    → Window log tick room from to
+    → from ≡ to
+    → NextEvent log horizon tick to until
+    → Quiet log (take (releases log) room) until
+quiet-front {log} {room} {from = from} {to = to} window all event i there unbegun =
+    by-cases (decLt i from)
+    (λ before. absurd (window .begun i before (sym (getD-take (releases log) room i 0 there) ∙ unbegun)))
+    (λ after. event .quiet i (omega arith) there)
 
 module _ (s log : List ℕ) (horizon : ℕ) where
   -- A turn that starts before the horizon leaves the rest of the run, with the horizon as fuel.
@@ -94,6 +110,33 @@ module _ (s log : List ℕ) (horizon : ℕ) where
         begun = λ i below unbegun.
             let kept = serve-kept account i (λ _. waiting-begun s log (bus .node) (bus .tick) room i (window .begun i below)) in
             window .begun i below (sym kept ∙ unbegun);
+        released = λ i below. omega (arith, window .arrived .released i below);
+      }
+
+  -- All that has come has begun: the silent turns up to the next release or the horizon, at once.
+  pub running-idle : {room₀ room : List ℕ} {bus : Bus} {from to known last until : ℕ}
+      → Window log (bus .tick) room from to
+      → from ≡ to
+      → NextEvent log horizon (bus .tick) to until
+      → Running s log horizon room₀ room bus known last
+      → Running s log horizon room₀ room (idleBus s bus (silentTurns (slotTicks s) (bus .tick) until)) from to
+  running-idle {room₀} {room} {bus} {from} {to} {until = until} window all event here =
+      let st = stateIn log bus room in
+      let k : ℕ = silentTurns (slotTicks s) (bus .tick) until in
+      let header = valid-fits s (here .node .valid) .header in
+      let silent = silent-before (slotTicks s) (bus .tick) until (header .slotFrom) (event .later) in
+      let quiet = quiet-front window all event in
+      let taken = run-idle s log horizon horizon st until k (here .node .from) (here .node .upTo) quiet (silent .last) (omega (arith, silent .last, event .inRun)) in
+      let fuel = run-fuel s log horizon (header .slotFrom) (k + horizon) horizon st (omega arith) (omega arith) in
+      record {
+        reached = sym taken ∙ fuel ∙ here .reached;
+        rest = here .rest;
+        sameLength = here .sameLength;
+        node = record { valid = here .node .valid; from = omega arith; upTo = mod-lt (pred (bus .node) + k) (header .nodesFrom) };
+        turnsTo = omega (arith, here .turnsTo, silent .few);
+        ordered = window .ordered;
+        inLog = window .arrived .inLog;
+        begun = window .begun;
         released = λ i below. omega (arith, window .arrived .released i below);
       }
 

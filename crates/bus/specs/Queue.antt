@@ -37,6 +37,13 @@ pub record Window (log : List ℕ) (tick : ℕ) (room : List ℕ) (from to : ℕ
   pub begun : BegunBefore room from
   pub arrived : Arrived log tick to
 
+-- The next tick at which something can happen, where all but the releases from `to` on have begun: it is after the tick, not after
+-- the horizon, and no release from `to` on comes before it.
+pub record NextEvent (log : List ℕ) (horizon tick to until : ℕ) : Type 0 where
+  pub later : tick < until
+  pub inRun : until ≤ horizon
+  pub quiet : (i : ℕ) → to ≤ i → i < releases log → until ≤ releaseTick log i
+
 -- What a scan keeps of node k's streams.
 abbrev pub streamsAs : List ℕ → ℕ → Streams
 streamsAs s k = record { before = streamsBefore s k; last = streamsUpTo s k; body = place s k }

@@ -1,12 +1,13 @@
 // One turn, the record after it, and the run of turns to a horizon, on input that has been checked.
 ghost use mathlib.Core.Path.{_≡_};
-ghost use Prim.Native.Nat.{_≤_};
+ghost use Prim.Native.Nat.{_≤_, _<_};
 ghost use mathlib.Core.List.{_++_};
 ghost use lib.ListN.{length, take, drop, replicate};
-ghost use Rattle.model.specs.Limits.{maxTime, maxBudget, notBegun};
-ghost use Rattle.model.specs.Sheet.{Valid};
+ghost use Rattle.model.specs.Limits.{maxTime, maxBudget, maxSlotTicks, notBegun};
+ghost use Rattle.model.specs.Sheet.{slotTicks, Valid};
+ghost use Rattle.model.specs.Idle.{idleBus, silentTurns, SilentBefore};
 ghost use Rattle.model.specs.Protocol.{releases, serveTurn, nextNode, nextBus, replayed};
-ghost use Rattle.bus.specs.Queue.{ValidNode, Rising, Window};
+ghost use Rattle.bus.specs.Queue.{ValidNode, Rising, Arrived, Window, NextEvent};
 use crate::queue::arrived_by;
 use crate::queue::begun_before;
 use crate::queue::first_waiting;
@@ -84,7 +85,45 @@ pub fn clear(room: &mut [u32], count: usize)
     }
 }
 
-// The turns that start before the horizon, from tick 0 with nothing sent: writes the begin ticks, and answers the record after
+// The next tick at which something can happen, where the first `to` releases have begun and come by a tick: the next release, or
+// the horizon.
+fn next_event(log: &[u32], horizon: u32, tick: u32, to: usize) -> u32
+    requires { ⌜ Rising (now log) × Arrived (now log) tick to × (tick < horizon) ⌝ }
+    ensures { λ r. ⌜ NextEvent (now (log .entry)) horizon tick to r ⌝ }
+{
+    if log.len() / 2 <= to {
+        return horizon;
+    }
+    let next = log[2 * to];
+    if next < horizon { next } else { horizon }
+}
+
+// How many turns start before a tick, if all of them are silent.
+fn silent_turns(slot: u32, tick: u32, until: u32) -> u32
+    requires { ⌜ (1 ≤ slot) × (slot ≤ maxSlotTicks) × (tick < until) × (until ≤ maxTime) ⌝ }
+    ensures count { λ r. ⌜ r ≡ silentTurns slot tick until ⌝ }
+    ensures before { λ r. ⌜ SilentBefore slot tick until r ⌝ }
+{
+    (until - tick + slot - 1) / slot
+}
+
+// The silent turns that start before a tick, taken at once: the record after them.
+fn pass_idle(sheet: &[u32], bus: Bus, until: u32) -> Bus
+    requires { ⌜ ValidNode (now sheet) (bus .node) × (bus .tick < until) × (until ≤ maxTime) × (bus .turns ≤ bus .tick) ⌝ }
+    ensures { λ r. ⌜ r ≡ idleBus (now (sheet .entry)) bus (silentTurns (slotTicks (now (sheet .entry))) (bus .tick) until) ⌝ }
+{
+    let n = layout::word_at(sheet, 0);
+    let slot = layout::word_at(sheet, 2);
+    let turns = silent_turns(slot, bus.tick, until);
+    Bus {
+        tick: bus.tick + turns * slot,
+        node: (bus.node - 1 + turns) % n + 1,
+        turns: bus.turns + turns,
+    }
+}
+
+// The turns that start before the horizon, from tick 0 with nothing sent. While all that has come has begun, the bus only passes
+// protocol slots up to the next release, and those turns are taken at once. Writes the begin ticks, and answers the record after
 // the last.
 pub fn run_to(sheet: &[u32], log: &[u32], horizon: u32, room: &mut [u32]) -> Bus
     requires { ⌜ Valid (now sheet) × Rising (now log) × (horizon ≤ maxTime) × (releases (now log) ≤ length (now room)) ⌝ }
@@ -102,8 +141,13 @@ pub fn run_to(sheet: &[u32], log: &[u32], horizon: u32, room: &mut [u32]) -> Bus
     while bus.tick < horizon {
         to = arrived_by(log, bus.tick, to);
         from = begun_before(&room[..], from, to);
-        let taken = run_turn(sheet, log, bus, from, to, room);
-        bus = next_bus(sheet, bus, taken);
+        if from == to {
+            let until = next_event(log, horizon, bus.tick, to);
+            bus = pass_idle(sheet, bus, until);
+        } else {
+            let taken = run_turn(sheet, log, bus, 0, to, room);
+            bus = next_bus(sheet, bus, taken);
+        }
     }
     bus
 }

@@ -1,7 +1,7 @@
 -- Idle time: while no release waits and the next is still to come, the bus only passes protocol slots. k silent turns take
 -- k × TPR ticks and move the node by k, and a run may take them at once. Assumes nothing.
-use Prim.Native.Nat.{ℕ, zero, suc, pred, _+_, _*_, _%_, _≤_, _<_}
-use native.Mathlib.Nat.{zero-add, suc-add, add-suc, suc-mod, mod-self, mod-lt, mod-eq-of-lt}
+use Prim.Native.Nat.{ℕ, zero, suc, pred, _+_, _-_, _*_, _/_, _%_, _≤_, _<_}
+use native.Mathlib.Nat.{zero-add, suc-add, add-suc, suc-mod, mod-self, mod-lt, mod-eq-of-lt, div-mul-le-self, le-mul-of-pos-right, le-div-iff-mul-le}
 use native.Mathlib.Numerals.{add-one}
 use native.Mathlib.Omega.{arith}
 use mathlib.Core.Path.{_≡_, refl, sym, _∙_, ap}
@@ -12,6 +12,7 @@ use lib.Dec.{ltb, eqb}
 use Rattle.model.specs.Limits.{notBegun}
 use Rattle.model.specs.Sheet.{word, nodes, messageTicks, slotTicks, budget}
 use Rattle.model.specs.Protocol.{releases, releaseTick, firstWaiting, nextNode, nextBus, State, turn, run}
+use Rattle.model.specs.Idle.{nodeAfter, idleBus, silentTurns, SilentBefore}
 use Rattle.model.proofs.Waiting.{waiting-true, first-waits}
 use Rattle.model.proofs.Serve.{serve-stop}
 use Rattle.model.proofs.Run.{run-on}
@@ -20,21 +21,9 @@ use Rattle.model.proofs.Run.{run-on}
 abbrev pub Quiet : List ℕ → List ℕ → ℕ → Type 0
 Quiet log begins until = (i : ℕ) → i < releases log → word begins i ≡ notBegun → until ≤ releaseTick log i
 
--- The node that is k nodes after one.
-abbrev pub nodeAfter : List ℕ → ℕ → ℕ → ℕ
-nodeAfter s node k = suc ((pred node + k) % nodes s)
-
 -- The bus after k silent turns.
 abbrev pub idle : List ℕ → State → ℕ → State
-idle s st k =
-    record {
-      bus = record {
-        tick = st .bus .tick + k * slotTicks s;
-        node = nodeAfter s (st .bus .node) k;
-        turns = st .bus .turns + k;
-      };
-      begins = st .begins;
-    }
+idle s st k = record { bus = idleBus s (st .bus) k; begins = st .begins }
 
 -- One node further.
 next-after : (s : List ℕ) (node k : ℕ) → 1 ≤ nodes s → nextNode s (nodeAfter s node k) ≡ nodeAfter s node (suc k)
@@ -138,3 +127,14 @@ module _ (s log : List ℕ) where
   run-idle horizon fuel st until k low high quiet early before =
       ap (run s log horizon (k + fuel)) (sym (none st low high))
       ∙ from-none horizon fuel st until k (omega arith) quiet early before
+
+-- How many silent turns start before a tick that is still to come.
+pub silent-before : (slot tick until : ℕ) → 1 ≤ slot → tick < until → SilentBefore slot tick until (silentTurns slot tick until)
+silent-before slot tick until one early =
+    let x : ℕ = until - tick + slot - 1 in
+    let low = div-mul-le-self x slot in
+    record {
+      some = le-div-iff-mul-le one .1 (omega arith);
+      few = le-mul-of-pos-right (x / slot) one;
+      last = omega (arith, low);
+    }

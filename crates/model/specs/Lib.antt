@@ -4,5 +4,6 @@ pub mod Refusal
 pub mod Sheet
 pub mod Analysis
 pub mod Protocol
+pub mod Idle
 pub mod Answers
 pub mod Demand
