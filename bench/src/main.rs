@@ -1,5 +1,6 @@
 //! Times the proved library beside the second program, both built for
-//! release, in one run: `bench admit`, `bench search`, `bench hardest`. Each figure is the
+//! release, in one run: `bench admit`, `bench search`, `bench hardest`,
+//! `bench replay`. Each figure is the
 //! median of nine runs over the same inputs; rooms are not cleared between
 //! runs.
 
@@ -153,13 +154,100 @@ fn hardest() {
     );
 }
 
+/// Times one replay by both, and prints it for a turn of the second program.
+fn replay_pair(what: &str, sheet: &[u32], log: &[u32], horizon: u32) {
+    let mut room = vec![0u32; log.len() / 2];
+    let answer = wistorvan::replay(sheet, log, horizon, &mut room);
+    assert_eq!(answer.number, 0);
+    let proved = median(|| {
+        black_box(wistorvan::replay(
+            black_box(sheet),
+            black_box(log),
+            horizon,
+            &mut room,
+        ));
+    });
+    let began = Instant::now();
+    black_box(peer::replay(
+        black_box(sheet),
+        black_box(log),
+        horizon,
+        &mut room,
+    ));
+    let second = began.elapsed().as_nanos() as f64;
+    println!(
+        "{what}: proved {:.3} ms, second program {:.1} ms ({:.2} ns a turn, {} turns), second / proved {:.2}",
+        proved / 1e6,
+        second / 1e6,
+        second / f64::from(answer.second.max(1)),
+        answer.second,
+        second / proved
+    );
+}
+
+/// So many releases of sheet A's streams in turn, spread evenly.
+fn even_log(releases: u32, horizon: u32) -> Vec<u32> {
+    let apart = horizon / releases;
+    (0..releases).flat_map(|i| [i * apart, 1 + i % 3]).collect()
+}
+
+const SHEET_A: [u32; 15] = [2, 5, 1, 9, 2, 1, 13, 1, 2, 40, 40, 60, 60, 30, 30];
+
+fn replay() {
+    let far = 1_000_000_000;
+    replay_pair(
+        "sheet A, 4,096 releases evenly, horizon 10^9",
+        &SHEET_A,
+        &even_log(4096, far),
+        far,
+    );
+    // Three streams at their periods: messages and their slots take nine tenths of the time.
+    let busy = sheet(5, 1, &[(1, vec![(25, 25), (40, 40)]), (2, vec![(12, 12)])]);
+    let horizon = 22_800;
+    let mut loaded: Vec<(u32, u32)> = [(25, 1), (40, 2), (12, 3)]
+        .iter()
+        .flat_map(|&(period, stream)| (0..horizon / period).map(move |i| (i * period, stream)))
+        .collect();
+    loaded.sort();
+    let loaded: Vec<u32> = loaded
+        .iter()
+        .flat_map(|&(tick, stream)| [tick, stream])
+        .collect();
+    replay_pair("a bus loaded to nine tenths", &busy, &loaded, horizon);
+    let nodes: Vec<(u32, Vec<(u32, u32)>)> = (0..16).map(|_| (4, vec![(1000, 1000); 16])).collect();
+    let flood: Vec<u32> = (0..4096).flat_map(|i| [0, 1 + i % 256]).collect();
+    replay_pair(
+        "a backlog of 4,096 at tick 0, sixteen nodes",
+        &sheet(5, 1, &nodes),
+        &flood,
+        1_000_000,
+    );
+    for horizon in [1_000_000, 10_000_000, 100_000_000, far] {
+        replay_pair(
+            &format!("4,096 releases, horizon {horizon}"),
+            &SHEET_A,
+            &even_log(4096, horizon),
+            horizon,
+        );
+    }
+    for releases in [16, 64, 256, 1024, 4096] {
+        replay_pair(
+            &format!("{releases} releases, horizon 10^8"),
+            &SHEET_A,
+            &even_log(releases, 100_000_000),
+            100_000_000,
+        );
+    }
+}
+
 fn main() -> ExitCode {
     match std::env::args().nth(1).as_deref() {
         Some("admit") => admit(),
         Some("search") => search(),
         Some("hardest") => hardest(),
+        Some("replay") => replay(),
         _ => {
-            eprintln!("usage: bench admit | search | hardest");
+            eprintln!("usage: bench admit | search | hardest | replay");
             return ExitCode::from(2);
         }
     }
