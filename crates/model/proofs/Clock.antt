@@ -114,10 +114,6 @@ module _ (s log : List ℕ) where
       le-ind (λ m. startOf s log a ≤ startOf s log m) (le-refl (startOf s log a)) (λ m from ih. omega (arith, next-start m)) b h
 
   module _ (slot : 1 ≤ slotTicks s) where
-    -- A later turn starts later.
-    pub starts-increase : (a b : ℕ) → a < b → startOf s log a < startOf s log b
-    starts-increase a b h = omega (arith, next-start a, starts-grow (suc a) b h)
-
     -- Each turn takes a tick at least.
     pub start-at-least : (i : ℕ) → i ≤ startOf s log i
     start-at-least zero = omega arith

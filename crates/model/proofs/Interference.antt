@@ -1,6 +1,6 @@
--- Interference, "H": it grows with the window, it has a bound, and it can be added up stream by stream. Assumes nothing.
-use Prim.Native.Nat.{ℕ, zero, suc, _+_, _*_, _/_, _≤_, zero-le}
-use native.Mathlib.Nat.{le-trans, zero-lt-suc, div-zero, div-mul-le-self, div-le-self, le-div-iff-mul-le}
+-- Interference, "H": it grows with the window; and how many streams it is over. Assumes nothing.
+use Prim.Native.Nat.{ℕ, zero, suc, _/_, _≤_, zero-le}
+use native.Mathlib.Nat.{le-trans, zero-lt-suc, div-zero, div-mul-le-self, le-div-iff-mul-le}
 use native.Mathlib.Omega.{arith}
 use mathlib.Core.Path.{_≡_, refl, ap}
 use mathlib.Core.Bool.{Bool, true, false, cond}
@@ -34,23 +34,3 @@ pub interference-grows : (ys : List Stream) {v w : ℕ} → v ≤ w → interfer
 unfolding interference
 interference-grows [] h = zero-le
 interference-grows (y ∷ ys) {v} {w} h = omega (arith, div-grows (y .period) h, interference-grows ys h)
-
--- In a window of w + 1 ticks a stream adds w + 1 at most.
-pub interference-bound : (ys : List Stream) (w : ℕ) → interference ys w ≤ length ys * (w + 1)
-unfolding interference
-interference-bound [] w = zero-le
-interference-bound (y ∷ ys) w = omega (arith, div-le-self w (y .period), interference-bound ys w)
-
--- A stream that outranks x adds "1 + floor(w / period)" to the interference of those ranked above x.
-pub interference-ranked : (x y : Stream) (ys : List Stream) (w : ℕ)
-    → outranks y x ≡ true
-    → interference (above x (y ∷ ys)) w ≡ 1 + w / y .period + interference (above x ys) w
-unfolding above interference
-interference-ranked x y ys w e = rw e
-
--- Any other stream adds nothing to it.
-pub interference-unranked : (x y : Stream) (ys : List Stream) (w : ℕ)
-    → outranks y x ≡ false
-    → interference (above x (y ∷ ys)) w ≡ interference (above x ys) w
-unfolding above
-interference-unranked x y ys w e = rw e
