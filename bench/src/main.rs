@@ -167,14 +167,14 @@ fn replay_pair(what: &str, sheet: &[u32], log: &[u32], horizon: u32) {
             &mut room,
         ));
     });
-    let began = Instant::now();
-    black_box(peer::replay(
-        black_box(sheet),
-        black_box(log),
-        horizon,
-        &mut room,
-    ));
-    let second = began.elapsed().as_nanos() as f64;
+    let second = median(|| {
+        black_box(peer::replay(
+            black_box(sheet),
+            black_box(log),
+            horizon,
+            &mut room,
+        ));
+    });
     println!(
         "{what}: proved {:.3} ms, second program {:.1} ms ({:.2} ns a turn, {} turns), second / proved {:.2}",
         proved / 1e6,
