@@ -12,7 +12,8 @@ fn row(node: u32, stream: u32, wait: u32) {
     report::text(b"\n");
 }
 
-// The lines of one node, whose waits start at `from`; answers where the next node's start.
+// The lines of one node, whose waits start at `from`; answers where the next node's start. An admitted sheet has a wait for each of
+// its streams; the test keeps the index in range for any other.
 fn rows(sheet: &[u32], node: u32, waits: &[u32], from: usize) -> usize {
     let count = layout::stream_count(sheet, node);
     let mut at = from;

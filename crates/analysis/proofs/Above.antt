@@ -10,7 +10,7 @@ use Rattle.model.specs.Limits.{streamWords}
 use Rattle.model.specs.Sheet.{word, place, period}
 use Rattle.model.specs.Analysis.{Stream, streamOf, streamsFrom, outranks, above}
 use Rattle.analysis.specs.Periods.{periodsOf}
-use Rattle.analysis.proofs.Filling.{one-more}
+use Rattle.model.proofs.Refusals.{one-more}
 
 -- The word of stream i + 1 in a body that stands at `at` is its least period.
 pub period-at : (s : List ℕ) (k at i : ℕ) → at ≡ place s k → word s (at + streamWords * i) ≡ period s k (i + 1)

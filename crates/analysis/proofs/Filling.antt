@@ -1,17 +1,13 @@
 -- Filling a buffer from its front: the words that are filled in, and the values that are left, are the whole. Each law says what one
 -- store does to that. Assumes nothing.
-use Prim.Native.Nat.{ℕ, suc, _+_, _-_, _≤_, _<_}
+use Prim.Native.Nat.{ℕ, _+_, _-_, _≤_, _<_}
 use native.Mathlib.Nat.{le-refl, le-of-lt}
 use native.Mathlib.Numerals.{add-one}
-use native.Mathlib.Omega.{arith}
 use mathlib.Core.Path.{_≡_, sym, ap, _∙_}
 use mathlib.Core.List.{List, [], _∷_, _++_, append-nil, append-assoc}
 use lib.ListN.{length, getD, take, drop, set, length-drop}
-use lib.Seq.{length-take-le, take-length, take-suc, drop-cons, set-at, take-suc-set, take-set-le, take-append-le, take-append-add, append-snoc}
-
--- Of n things, of which i are done, one is the next.
-pub one-more : (i n : ℕ) → i < n → n - i ≡ suc (n - suc i)
-one-more i n h = omega arith
+use lib.Seq.{length-take-le, take-length, take-suc, take-suc-set, take-set-le, take-append-le, take-append-add, append-snoc}
+use Rattle.model.proofs.Buffer.{write-next}
 
 -- The next value is stored after those that are filled in.
 pub fill-one : (xs : List ℕ) (n v : ℕ) {left left' whole : List ℕ}
@@ -54,8 +50,8 @@ pub copy-one : (values room : List ℕ) (i : ℕ)
     → i < length room
     → set (take i values ++ drop i room) i (getD values i 0) ≡ take (i + 1) values ++ drop (i + 1) room
 copy-one values room i inside free =
-    rw (add-one i, drop-cons room i 0 free, take-suc values i 0 inside, append-snoc)
-    (set-at (take i values) (getD room i 0) (drop (suc i) room) (getD values i 0) i (length-take-le i values (le-of-lt inside)))
+    rw (add-one i, take-suc values i 0 inside, ← add-one i)
+    (write-next (take i values) room i (getD values i 0) (length-take-le i values (le-of-lt inside)) free)
 
 -- and all of them.
 pub copy-end : (values room : List ℕ)

@@ -1,11 +1,6 @@
 -- Laws that the proofs of the analysis share, one subject a file, in the order in which they build on each other.
 pub mod Filling
-pub mod StreamSums
 pub mod InRange
 pub mod Periods
 pub mod Above
-pub mod Searching
 pub mod WaitBounds
-pub mod Waits
-pub mod Asked
-pub mod Buffer

@@ -1,11 +1,8 @@
 -- Laws that the proofs of the bus cite, one subject a file, in the order in which they build on each other.
 pub mod AcceptedLog
-pub mod FirstWithin
 pub mod RankKey
 pub mod Scan
-pub mod Windows
 pub mod TurnSteps
 pub mod StepOutcome
-pub mod LongerBuffer
 pub mod RunSteps
 pub mod ReplayOutcome

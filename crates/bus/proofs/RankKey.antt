@@ -3,7 +3,7 @@
 use Prim.Native.Nat.{ℕ, _+_, _-_, _*_, _^_, _≤_, _<_}
 use mathlib.Core.Path.{_≡_, refl}
 use mathlib.Core.Logic.{inl, inr, ⊎-elim}
-use mathlib.Core.Bool.{Bool, true, false}
+use mathlib.Core.Bool.{true, false}
 use mathlib.Core.List.{List}
 use native.Mathlib.Decide.{decLt}
 use native.Mathlib.Numerals.{sub-one}
@@ -12,16 +12,12 @@ use lib.ListN.{length}
 use Rattle.model.specs.Sheet.{word, nodes, place, period, streamsBefore, streamsUpTo, OnSheet}
 use Rattle.model.specs.Analysis.{outranks}
 use Rattle.model.specs.Protocol.{releaseStream, streamOfRelease, queuedBefore}
+use Rattle.model.proofs.Tests.{fails}
 use Rattle.model.proofs.ValidSheet.{SheetFits}
 use Rattle.model.proofs.RunningSums.{streams-grow, streams-split, total-most, stream-there}
 use Rattle.model.proofs.Rank.{outranks-reading}
 use Rattle.model.proofs.Queue.{before-reading}
 use Rattle.bus.specs.Queue.{rankKey}
-
--- A test that cannot hold fails.
-fails : (b : Bool) → (b ≡ true → ⊥) → b ≡ false
-fails true h = absurd (h refl)
-fails false h = refl
 
 -- Running number r is one of node k's.
 abbrev pub Own : List ℕ → ℕ → ℕ → Type 0

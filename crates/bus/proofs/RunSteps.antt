@@ -1,6 +1,6 @@
 -- The run to a horizon, turn by turn, over a buffer that may be longer than the log: the rest of the run from here equals the
 -- whole, so that a loop can keep it. Assumes nothing.
-use Prim.Native.Nat.{ℕ, zero, suc, pred, _+_, _≤_, _<_}
+use Prim.Native.Nat.{ℕ, pred, _+_, _≤_, _<_}
 use mathlib.Core.Path.{_≡_, refl, sym, _∙_, ap}
 use mathlib.Core.Logic.{by-cases}
 use mathlib.Core.List.{List, _++_}
@@ -9,7 +9,6 @@ use native.Mathlib.Decide.{decLt}
 use native.Mathlib.Omega.{arith}
 use lib.ListN.{length, take, drop, replicate, take-append-drop}
 use lib.Seq.{getD-take}
-use borrow.Author.Tests.{lt-ltb}
 use Rattle.model.specs.declared.Bus.{Bus}
 use Rattle.model.specs.Limits.{notBegun}
 use Rattle.model.specs.Sheet.{slotTicks, budget, Valid}
@@ -17,12 +16,12 @@ use Rattle.model.specs.Protocol.{releases, serveTurn, nextBus, State, turn, sta
 use Rattle.model.proofs.ValidSheet.{valid-fits}
 use Rattle.model.proofs.Waiting.{waiting-begun}
 use Rattle.model.proofs.Serve.{serving, serve-length, serve-kept}
-use Rattle.model.proofs.Clock.{next-range, turn-least}
-use Rattle.model.proofs.Run.{run-on, run-done, run-fuel}
+use Rattle.model.proofs.Clock.{next-range}
+use Rattle.model.proofs.Run.{run-done, run-fuel, run-next}
+use Rattle.model.proofs.LongerBuffer.{front-served}
 use Rattle.model.proofs.Idle.{Quiet, run-idle, silent-before}
 use Rattle.model.specs.Idle.{idleBus, silentTurns}
-use Rattle.bus.specs.Queue.{ValidNode, ReleasedBefore, BegunBefore, Window, NextEvent}
-use Rattle.bus.proofs.LongerBuffer.{front-served}
+use Rattle.bus.specs.Queue.{ValidNode, ReleasedBefore, Arrived, BegunBefore, NextEvent}
 
 -- The bus between two turns, with the begin words in the front of a buffer.
 abbrev stateIn : List ℕ → Bus → List ℕ → State
@@ -40,6 +39,12 @@ pub record Running (s log : List ℕ) (horizon : ℕ) (room₀ room : List ℕ) 
   pub begun : BegunBefore room from
   pub released : ReleasedBefore log (bus .tick) to
 
+-- Whoever waits at a tick stands in the log at `from` or after it and before `to`.
+pub record Window (log : List ℕ) (tick : ℕ) (room : List ℕ) (from to : ℕ) : Type 0 where
+  pub ordered : from ≤ to
+  pub begun : BegunBefore room from
+  pub arrived : Arrived log tick to
+
 -- Where all that has come has begun, no release before the next event is left in the buffer's front.
 quiet-front : {log room : List ℕ} {horizon tick from to until : ℕ}
     → Window log tick room from to
@@ -52,19 +57,6 @@ quiet-front {log} {room} {from = from} {to = to} window all event i there unbegu
     (λ after. event .quiet i (omega arith) there)
 
 module _ (s log : List ℕ) (horizon : ℕ) where
-  -- A turn that starts before the horizon leaves the rest of the run, with the horizon as fuel.
-  run-next : 1 ≤ slotTicks s
-      → (st : State)
-      → st .bus .tick < horizon
-      → run s log horizon horizon st ≡ run s log horizon horizon (turn s log st)
-  run-next slot st early = go horizon refl
-    where
-      go : (fuel : ℕ) → fuel ≡ horizon → run s log horizon fuel st ≡ run s log horizon fuel (turn s log st)
-      go zero same = absurd (omega arith)
-      go (suc fuel) same =
-          run-on s log horizon fuel st (lt-ltb (st .bus .tick) horizon early)
-          ∙ run-fuel s log horizon slot fuel (suc fuel) (turn s log st) (omega (arith, turn-least s log st)) (omega arith)
-
   -- The run starts with a buffer whose front says that nothing has begun.
   pub running-start : {room : List ℕ}
       → Valid s
@@ -100,7 +92,7 @@ module _ (s log : List ℕ) (horizon : ℕ) where
       let account = serving s log (bus .node) (bus .tick) m 0 room in
       let range = next-range s (bus .node) (here .node .from) (here .node .upTo) in
       record {
-        reached = rw (served .taken, served .front) (sym (run-next (header .slotFrom) (stateIn log bus room) early) ∙ here .reached);
+        reached = rw (served .taken, served .front) (sym (run-next s log horizon (header .slotFrom) (stateIn log bus room) early) ∙ here .reached);
         rest = served .rest ∙ here .rest;
         sameLength = serve-length account ∙ here .sameLength;
         node = record { valid = here .node .valid; from = range .0; upTo = range .1 };

@@ -10,11 +10,10 @@ use Rattle.model.specs.Limits.{notBegun}
 use Rattle.model.specs.Sheet.{word}
 use Rattle.model.specs.Protocol.{releases, releaseTick, releaseStream, queuedBefore, waiting, firstIn, firstWaiting}
 use Rattle.model.proofs.ValidSheet.{valid-fits}
-use Rattle.model.proofs.First.{first-passed, first-alone, first-ahead, first-behind}
+use Rattle.model.proofs.First.{first-start, first-passed, first-beyond, first-alone, first-ahead, first-behind}
 use Rattle.model.proofs.Queue.{ofNode-reading}
-use Rattle.model.proofs.Waiting.{waiting-holds, waiting-begun}
-use Rattle.bus.specs.Queue.{ValidNode, Window, rankKey}
-use Rattle.bus.proofs.FirstWithin.{first-clear, first-beyond, waiting-later}
+use Rattle.model.proofs.Waiting.{waiting-holds, waiting-later}
+use Rattle.bus.specs.Queue.{ValidNode, Arrived, rankKey}
 use Rattle.bus.proofs.RankKey.{Own, key-most, key-ahead, key-behind}
 
 -- The key of nobody: no stream has one as large.
@@ -32,11 +31,11 @@ pub record Scanned (s log : List ℕ) (k tick : ℕ) (room : List ℕ) (i first 
   pub kept : Kept s log k i first key
 
 module _ {s log : List ℕ} {k tick : ℕ} {room : List ℕ} where
-  -- The scan begins where all those before have begun.
-  pub scan-start : {from to : ℕ} → Window log tick room from to → Scanned s log k tick room from (releases log) noKey
-  scan-start {from} window =
+  -- Before the first release there is nobody.
+  pub scan-start : Scanned s log k tick room 0 (releases log) noKey
+  scan-start =
       record {
-        found = sym (first-clear _ _ (releases log) from (λ i h. waiting-begun s log k tick room i (window .begun i h)));
+        found = sym (first-start (waiting s log k tick room) (queuedBefore s log k) (releases log));
         kept = nobody refl refl;
       }
 
@@ -56,16 +55,16 @@ module _ {s log : List ℕ} {k tick : ℕ} {room : List ℕ} where
       go (somebody below own same) = somebody (omega arith) own same
 
   -- The scan ends where the later ones are released after the tick.
-  pub scan-end : {from to i first key : ℕ}
-      → Window log tick room from to
+  pub scan-end : {to i first key : ℕ}
+      → Arrived log tick to
       → i ≡ to
       → Scanned s log k tick room i first key
       → first ≡ firstWaiting s log k tick room
   unfolding firstWaiting
-  scan-end {from} {to} window done sc =
+  scan-end {to} arrived done sc =
       (rw done at (sc .found))
-      ∙ sym (first-beyond _ _ (releases log) to (releases log) (window .arrived .inLog)
-      (λ i low high. waiting-later s log k tick room i (window .arrived .later i low high)))
+      ∙ sym (first-beyond _ _ (releases log) to (releases log) (arrived .inLog)
+      (λ i low high. waiting-later s log k tick room i (arrived .later i low high)))
 
 module _ {s log : List ℕ} {k tick : ℕ} {room : List ℕ} (node : ValidNode s k) (i : ℕ) (own : Own s k (releaseStream log i)) where
   -- One of the node's with no lower key than the first so far is passed: the first so far is somebody, and comes before it.

@@ -9,8 +9,8 @@ use lib.ListN.{set}
 use borrow.Author.Tests.{lt-ltb, le-ltb}
 use Rattle.model.specs.declared.Bus.{Bus}
 use Rattle.model.specs.Limits.{maxTime, maxBudget}
-use Rattle.model.specs.Sheet.{messageTicks, budget}
-use Rattle.model.specs.Protocol.{releases, firstWaiting, Served, serve, serveTurn, nextBus}
+use Rattle.model.specs.Sheet.{messageTicks, slotTicks, budget}
+use Rattle.model.specs.Protocol.{releases, firstWaiting, Served, serve, serveTurn, nextNode, nextBus}
 use Rattle.model.proofs.ValidSheet.{valid-fits}
 use Rattle.model.proofs.Serve.{serve-take, serve-stop, serve-spent, serving, serve-taken}
 use Rattle.bus.specs.Queue.{ValidNode}
@@ -25,16 +25,17 @@ module _ (s log : List ℕ) (k tick m : ℕ) where
   turn-start room = rw sub-zero refl
 
   -- The first in the queue takes place j.
-  pub turn-take : (j : ℕ) (room : List ℕ) {whole : Served}
+  pub turn-take : (j : ℕ) (room : List ℕ) {i begin : ℕ} {whole : Served}
       → j < m
-      → firstWaiting s log k tick room < releases log
+      → i ≡ firstWaiting s log k tick room
+      → i < releases log
+      → begin ≡ tick + j * messageTicks s
       → restOfTurn j room ≡ whole
-      → restOfTurn (j + 1) (set room (firstWaiting s log k tick room) (tick + j * messageTicks s)) ≡ whole
-  turn-take j room left waits same =
+      → restOfTurn (j + 1) (set room i begin) ≡ whole
+  turn-take j room left first waits start same =
       let one : m - j ≡ suc (m - suc j) = omega arith in
-      rw (add-one j)
-      (sym (serve-take s log k tick (m - suc j) j room (lt-ltb (firstWaiting s log k tick room) (releases log) waits))
-      ∙ (rw one at same))
+      let taken = lt-ltb (firstWaiting s log k tick room) (releases log) (rw first at waits) in
+      rw (add-one j, first, start) (sym (serve-take s log k tick (m - suc j) j room taken) ∙ (rw one at same))
 
   -- Nobody waits: the turn is over.
   pub turn-stop : (j : ℕ) (room : List ℕ) {whole : Served}
@@ -56,6 +57,15 @@ pub taken-few : (s log : List ℕ) (bus : Bus) (room : List ℕ) → ValidNode s
 taken-few s log bus room node =
     let most = serve-taken (serving s log (bus .node) (bus .tick) (budget s (bus .node)) 0 room) in
     omega (arith, valid-fits s (node .valid) .rows (bus .node) (node .from) (node .upTo) .budgetTo, most .1)
+
+-- The record of the next turn, field by field.
+pub next-record : (s : List ℕ) (bus : Bus) (x : ℕ) {node message slot : ℕ}
+    → node ≡ nextNode s (bus .node)
+    → message ≡ messageTicks s
+    → slot ≡ slotTicks s
+    → record { tick = bus .tick + x * message + slot; node = node; turns = bus .turns + 1 } ≡ nextBus s bus x
+unfolding nextBus
+next-record s bus x next sent passed = rw (next, sent, passed) refl
 
 -- A turn moves the clock.
 pub clock-moves : {s : List ℕ} (bus : Bus) (x : ℕ) → ValidNode s (bus .node) → bus .tick < nextBus s bus x .tick

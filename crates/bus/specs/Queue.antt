@@ -31,12 +31,6 @@ pub record Arrived (log : List ℕ) (tick to : ℕ) : Type 0 where
 abbrev pub BegunBefore : List ℕ → ℕ → Type 0
 BegunBefore room from = (i : ℕ) → i < from → word room i ≡ notBegun → ⊥
 
--- Whoever waits at a tick stands in the log at `from` or after it and before `to`.
-pub record Window (log : List ℕ) (tick : ℕ) (room : List ℕ) (from to : ℕ) : Type 0 where
-  pub ordered : from ≤ to
-  pub begun : BegunBefore room from
-  pub arrived : Arrived log tick to
-
 -- The next tick at which something can happen, where all but the releases from `to` on have begun: it is after the tick, not after
 -- the horizon, and no release from `to` on comes before it.
 pub record NextEvent (log : List ℕ) (horizon tick to until : ℕ) : Type 0 where

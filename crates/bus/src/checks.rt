@@ -1,6 +1,9 @@
 // The refusals of the entries, in their order.
 ghost use mathlib.Core.Path.{_≡_};
-ghost use Rattle.model.specs.Answers.{roomRefusal, recordRefusal, horizonRefusal, stepRefusal};
+ghost use Rattle.model.specs.Refusal.{_orElse_};
+ghost use Rattle.model.specs.Sheet.{sheetRefusal};
+ghost use Rattle.model.specs.Protocol.{releases};
+ghost use Rattle.model.specs.Answers.{roomRefusal, logRefusal, recordRefusal, horizonRefusal, stepRefusal};
 ghost use Rattle.bus.specs.Replay.{replayRefusal};
 use crate::log::check_log;
 use model::Answer;
@@ -76,9 +79,9 @@ fn check_horizon(horizon: u32) -> Answer
     }
 }
 
-// The refusals of one step, with a buffer of so many words: 1 to 5, 9, 16, 6.
-pub fn check_step(sheet: &[u32], log: &[u32], bus: Bus, room: usize) -> Answer
-    ensures { λ r. ⌜ r ≡ stepRefusal (now (sheet .entry)) (now (log .entry)) bus room ⌝ }
+// The refusals of an entry that is lent a log and a buffer of so many words: 1 to 5, 9, then its own, then 6.
+fn check_input(sheet: &[u32], log: &[u32], own: Answer, room: usize) -> Answer
+    ensures { λ r. ⌜ r ≡ (sheetRefusal (now (sheet .entry)) orElse logRefusal (now (sheet .entry)) (now (log .entry)) orElse own orElse roomRefusal (releases (now (log .entry))) room) ⌝ }
 {
     let words = sheet::check_sheet(sheet);
     if words.number != 0 {
@@ -88,28 +91,22 @@ pub fn check_step(sheet: &[u32], log: &[u32], bus: Bus, room: usize) -> Answer
     if releases.number != 0 {
         return releases;
     }
-    let record = check_record(sheet, bus);
-    if record.number != 0 {
-        return record;
+    if own.number != 0 {
+        return own;
     }
     check_room(log.len() / 2, room)
+}
+
+// The refusals of one step, with a buffer of so many words: 1 to 5, 9, 16, 6.
+pub fn check_step(sheet: &[u32], log: &[u32], bus: Bus, room: usize) -> Answer
+    ensures { λ r. ⌜ r ≡ stepRefusal (now (sheet .entry)) (now (log .entry)) bus room ⌝ }
+{
+    check_input(sheet, log, check_record(sheet, bus), room)
 }
 
 // The refusals of the replay, with a buffer of so many words: 1 to 5, 9, 10, 6.
 pub fn check_replay(sheet: &[u32], log: &[u32], horizon: u32, room: usize) -> Answer
     ensures { λ r. ⌜ r ≡ replayRefusal (now (sheet .entry)) (now (log .entry)) horizon room ⌝ }
 {
-    let words = sheet::check_sheet(sheet);
-    if words.number != 0 {
-        return words;
-    }
-    let releases = check_log(sheet, log);
-    if releases.number != 0 {
-        return releases;
-    }
-    let late = check_horizon(horizon);
-    if late.number != 0 {
-        return late;
-    }
-    check_room(log.len() / 2, room)
+    check_input(sheet, log, check_horizon(horizon), room)
 }

@@ -38,7 +38,7 @@ pub fn turn(sheet: &[u32], log: &[u32], bus: Bus, room: &mut [u32]) -> Turned
         };
     }
     let arrived = arrived_by(log, bus.tick, 0);
-    let taken = run_turn(sheet, log, bus, 0, arrived, room);
+    let taken = run_turn(sheet, log, bus, arrived, room);
     let next = next_bus(sheet, bus, taken);
     Turned {
         answer: Answer {

@@ -4,7 +4,7 @@ ghost use Prim.Native.Nat.{_+_, _-_, _*_, _^_, _≤_, _<_};
 ghost use lib.ListN.{length};
 ghost use Rattle.model.specs.Sheet.{word};
 ghost use Rattle.model.specs.Protocol.{releases, firstWaiting};
-ghost use Rattle.bus.specs.Queue.{ValidNode, Rising, ReleasedBefore, Arrived, BegunBefore, Window, streamsAs};
+ghost use Rattle.bus.specs.Queue.{ValidNode, Rising, ReleasedBefore, Arrived, BegunBefore, streamsAs};
 
 // The streams of a node: their running numbers are above `before` and up to `last`, and their words stand from `body` on.
 pub struct Streams {
@@ -36,18 +36,17 @@ fn rank_key(sheet: &[u32], body: usize, before: usize, r: usize) -> u64
     sheet[body + 2 * (r - before - 1)] as u64 * 4294967296 + r as u64
 }
 
-// The first release in the queue of a node at a tick, or the number of releases where none waits.
+// The first release in the queue of a node at a tick, or the number of releases where none waits. The first `to` have arrived.
 pub fn first_waiting(
     sheet: &[u32],
     log: &[u32],
     node: u32,
     tick: u32,
-    from: usize,
     to: usize,
     room: &[u32],
 ) -> usize
     requires { ⌜ ValidNode (now sheet) node × (releases (now log) ≤ length (now room)) ⌝ }
-    requires { ⌜ Window (now log) tick (now room) from to ⌝ }
+    requires { ⌜ Arrived (now log) tick to ⌝ }
     ensures { λ r. ⌜ r ≡ firstWaiting (now (sheet .entry)) (now (log .entry)) node tick (now (room .entry)) ⌝ }
 {
     let streams = streams_of(sheet, node);
@@ -56,7 +55,7 @@ pub fn first_waiting(
     let body = streams.body;
     let mut first = log.len() / 2;
     let mut first_key: u64 = 18446744073709551615;
-    let mut i = from;
+    let mut i: usize = 0;
     while i < to {
         let at = i;
         i += 1;

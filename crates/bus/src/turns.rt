@@ -7,23 +7,17 @@ ghost use Rattle.model.specs.Limits.{maxTime, maxBudget, maxSlotTicks, notBegun
 ghost use Rattle.model.specs.Sheet.{slotTicks, Valid};
 ghost use Rattle.model.specs.Idle.{idleBus, silentTurns, SilentBefore};
 ghost use Rattle.model.specs.Protocol.{releases, serveTurn, nextNode, nextBus, replayed};
-ghost use Rattle.bus.specs.Queue.{ValidNode, Rising, Arrived, Window, NextEvent};
+ghost use Rattle.bus.specs.Queue.{ValidNode, Rising, Arrived, NextEvent};
 use crate::queue::arrived_by;
 use crate::queue::begun_before;
 use crate::queue::first_waiting;
 use model::Bus;
 
-// The record's turn: writes the begin ticks of the messages that it takes, and answers how many those are.
-pub fn run_turn(
-    sheet: &[u32],
-    log: &[u32],
-    bus: Bus,
-    from: usize,
-    to: usize,
-    room: &mut [u32],
-) -> u32
+// The record's turn, with the first `to` releases arrived: writes the begin ticks of the messages that it takes, and answers how
+// many those are.
+pub fn run_turn(sheet: &[u32], log: &[u32], bus: Bus, to: usize, room: &mut [u32]) -> u32
     requires { ⌜ ValidNode (now sheet) (bus .node) × (bus .tick ≤ maxTime) × (releases (now log) ≤ length (now room)) ⌝ }
-    requires { ⌜ Window (now log) (bus .tick) (now room) from to ⌝ }
+    requires { ⌜ Arrived (now log) (bus .tick) to ⌝ }
     ensures taken { λ r. ⌜ r ≡ serveTurn (now (sheet .entry)) (now (log .entry)) bus (now (room .entry)) .taken ⌝ }
     ensures begins { λ r. ⌜ now (room .exit) ≡ serveTurn (now (sheet .entry)) (now (log .entry)) bus (now (room .entry)) .begins ⌝ }
 {
@@ -35,7 +29,7 @@ pub fn run_turn(
     let mut begin = tick;
     let mut j: u32 = 0;
     while j < budget {
-        let i = first_waiting(sheet, log, node, tick, from, to, &room[..]);
+        let i = first_waiting(sheet, log, node, tick, to, &room[..]);
         if count <= i {
             return j;
         }
@@ -52,10 +46,9 @@ fn next_node(sheet: &[u32], k: u32) -> u32
     ensures { λ r. ⌜ r ≡ nextNode (now (sheet .entry)) k ⌝ }
 {
     if k == layout::word_at(sheet, 0) {
-        1
-    } else {
-        k + 1
+        return 1;
     }
+    k + 1
 }
 
 // The record after a turn that took so many messages.
@@ -145,7 +138,7 @@ pub fn run_to(sheet: &[u32], log: &[u32], horizon: u32, room: &mut [u32]) -> Bus
             let until = next_event(log, horizon, bus.tick, to);
             bus = pass_idle(sheet, bus, until);
         } else {
-            let taken = run_turn(sheet, log, bus, 0, to, room);
+            let taken = run_turn(sheet, log, bus, to, room);
             bus = next_bus(sheet, bus, taken);
         }
     }

@@ -3,16 +3,12 @@
 use Prim.Native.Nat.{ℕ, suc, _+_, _*_, _<_}
 use mathlib.Core.List.{List}
 use native.Mathlib.Omega.{arith}
-use lib.Dec.{ltb}
-use borrow.Author.Tests.{ltb-false}
-use Rattle.model.specs.Limits.{maxTime, notBegun}
-use Rattle.model.specs.Refusal.{refuse}
-use Rattle.model.specs.Sheet.{messageTicks, sheetRefusal}
+use Rattle.model.specs.Limits.{notBegun}
+use Rattle.model.specs.Sheet.{messageTicks}
 use Rattle.model.specs.Protocol.{startOf, TurnsBefore, replayed}
-use Rattle.model.specs.Answers.{logRefusal, horizonRefusal, replayAnswer}
 use Rattle.model.specs.Demand.{Accepts}
-use Rattle.model.proofs.Refusals.{orElse-both, refuseIf-none}
 use Rattle.model.proofs.ValidSheet.{SheetFits, valid-fits}
+use Rattle.model.proofs.NotRefused.{replay-accepted}
 use Rattle.model.proofs.Clock.{takenIn, next-start, turn-longest}
 use Rattle.model.proofs.Run.{replayed-turns}
 
@@ -34,18 +30,14 @@ begins-early {s} {log} r t h = omega (arith, r .over t h, next-start s log t)
 pub accepted-replay : {s log : List ℕ} {horizon : ℕ}
     → Accepts s log horizon
     → Replay s log horizon (replayed s log horizon .bus .turns)
-unfolding replayAnswer horizonRefusal
 accepted-replay {s} {log} {horizon} accepts =
-    let sheet = orElse-both (sheetRefusal s) _ accepts in
-    let logs = orElse-both (logRefusal s log) _ (sheet .1) in
-    let late = orElse-both (horizonRefusal horizon) _ (logs .1) in
-    let h = ltb-false maxTime horizon (refuseIf-none (ltb maxTime horizon) (refuse 10 0 0) (λ e. omega arith) (late .0)) in
-    let fits : SheetFits s = valid-fits s (sheet .0) in
+    let ok = replay-accepted accepts in
+    let fits : SheetFits s = valid-fits s (ok .valid) in
     let header = fits .header in
     let counted = replayed-turns s log horizon (header .slotFrom) in
     let longest = turn-longest s log (header .nodesFrom) (header .messageTo) (header .slotTo) (λ k a b. fits .rows k a b .budgetTo) in
     record {
       fits = fits;
       counted = counted;
-      over = λ t b. omega (arith, counted .started t b, longest t);
+      over = λ t b. omega (arith, ok .horizonTo, counted .started t b, longest t);
     }

@@ -1,10 +1,14 @@
--- A buffer that is written from the front: after i words it holds those i and then its old words from i on. Assumes nothing.
+-- A lent buffer: written from the front, after i words it holds those i and then its old words from i on; and what an answer leaves
+-- in it. Assumes nothing.
 use Prim.Native.Nat.{ℕ, suc, _+_, _<_}
 use native.Mathlib.Numerals.{add-one}
-use mathlib.Core.Path.{_≡_, sym, _∙_}
+use mathlib.Core.Path.{_≡_, refl, sym, _∙_}
 use mathlib.Core.List.{List, [], _∷_, _++_}
 use lib.ListN.{length, set, drop}
 use lib.Seq.{drop-cons, set-at, append-snoc}
+use borrow.Author.Tests.{eq-eqb, ne-eqb}
+use Rattle.model.specs.declared.Answer.{Answer}
+use Rattle.model.specs.Answers.{bufferAfter}
 
 -- One word more.
 pub write-next : (written old : List ℕ) (i v : ℕ)
@@ -14,3 +18,15 @@ pub write-next : (written old : List ℕ) (i v : ℕ)
 write-next written old i v same there =
     rw (drop-cons old i 0 there, add-one i)
     (set-at written _ (drop (suc i) old) v i same ∙ sym (append-snoc written v (drop (suc i) old)))
+
+-- A refusal changes no word.
+pub buffer-kept : (a : Answer) (values room : List ℕ) → (a .number ≡ 0 → ⊥) → room ≡ bufferAfter a values room
+unfolding bufferAfter
+buffer-kept a values room refuses = rw (ne-eqb (a .number) 0 refuses) refl
+
+-- A success leaves its values and the rest.
+pub buffer-written : (a : Answer) (values room : List ℕ)
+    → a .number ≡ 0
+    → values ++ drop (length values) room ≡ bufferAfter a values room
+unfolding bufferAfter
+buffer-written a values room passes = rw (eq-eqb (a .number) 0 passes) refl

@@ -5,7 +5,7 @@ use mathlib.Core.Path.{_≡_, refl, sym, _∙_}
 use mathlib.Core.Logic.{_⊎_, inl, inr, ⊎-elim}
 use mathlib.Core.Bool.{Bool, true, false, true≢false, or-true, and-false}
 use native.Mathlib.Nat.{eq-or-lt-of-le, le-of-suc-le-suc}
-use native.Mathlib.Decide.{ℕ-discrete}
+use native.Mathlib.Decide.{ℕ-discrete, le-ind}
 use native.Mathlib.Omega.{arith}
 use lib.Dec.{eqb}
 use borrow.Author.Tests.{eqb-true, eqb-false, eq-eqb, ne-eqb}
@@ -59,6 +59,20 @@ module _ (test : ℕ → Bool) (before : ℕ → ℕ → Bool) (none : ℕ) wher
       → firstIn test before none (suc i) ≡ firstIn test before none i
   unfolding firstIn
   first-behind i some later = rw (later, ne-eqb (firstIn test before none i) none some, and-false)
+
+  -- Numbers from `to` on for which the test fails leave the first.
+  pub first-beyond : (to count : ℕ)
+      → to ≤ count
+      → ((i : ℕ) → to ≤ i → i < count → test i ≡ false)
+      → firstIn test before none count ≡ firstIn test before none to
+  first-beyond to count upTo fails =
+      le-ind
+      (λ m. ((i : ℕ) → to ≤ i → i < m → test i ≡ false) → firstIn test before none m ≡ firstIn test before none to)
+      (λ _. refl)
+      (λ m above ih out. first-passed m (out m above (omega arith)) ∙ ih (λ i low high. out i low (omega arith)))
+      count
+      upTo
+      fails
 
   -- Each step of the scan is one of these.
   step : (i : ℕ) → Step test before none i (firstIn test before none i) (firstIn test before none (suc i))
@@ -134,6 +148,15 @@ module _ (test : ℕ → Bool) (before : ℕ → ℕ → Bool) (none : ℕ) wher
       go ih range n (ahead p q r e) place = absurd (omega arith)
       go ih (inl less) n (behind q r e) place = absurd (omega arith)
       go ih (inr same) n (behind q r e) place = absurd (q same)
+
+-- The first of a collection depends on the test below `count` alone.
+pub first-agrees : (test other : ℕ → Bool) (before : ℕ → ℕ → Bool) (none count : ℕ)
+    → ((i : ℕ) → i < count → test i ≡ other i)
+    → firstIn test before none count ≡ firstIn other before none count
+unfolding firstIn
+first-agrees test other before none zero same = refl
+first-agrees test other before none (suc i) same =
+    rw (first-agrees test other before none i (λ n h. same n (omega arith)), same i (omega arith)) refl
 
 -- Where the scan finds one, it is the first.
 pub first-some : {Member : ℕ → Type 0} {before : ℕ → ℕ → Bool}

@@ -3,21 +3,19 @@
 use Prim.Native.Nat.{ℕ, _+_, _≤_}
 use native.Mathlib.Nat.{suc-ne-zero, mul-le-mul}
 use native.Mathlib.Omega.{arith}
-use mathlib.Core.Path.{_≡_}
-use mathlib.Core.Bool.{_||_}
 use mathlib.Core.List.{List}
 use borrow.Author.Tests.{ltb-false}
 use lib.ListN.{length}
 use lib.Dec.{ltb}
 use Rattle.model.specs.declared.Bus.{Bus}
 use Rattle.model.specs.Limits.{maxTime, maxReleases}
-use Rattle.model.specs.Refusal.{refuse, refuseIf, outside}
-use Rattle.model.specs.Sheet.{nodes, budget, sheetRefusal, Valid}
+use Rattle.model.specs.Refusal.{refuse, refuseIf}
+use Rattle.model.specs.Sheet.{budget, sheetRefusal}
 use Rattle.model.specs.Protocol.{releases, serveTurn, nextBus}
 use Rattle.model.specs.Answers.{roomRefusal, releaseRefusal, logRefusal, horizonRefusal, recordRefusal, replayAnswer, stepRefusal, stepAnswer}
-use Rattle.model.proofs.Refusals.{orElse-both, refuseIf-none}
-use Rattle.model.proofs.Tests.{or-neither, within}
+use Rattle.model.proofs.Refusals.{refuseIf-none}
 use Rattle.model.proofs.ValidSheet.{valid-fits}
+use Rattle.model.proofs.NotRefused.{StepAccepted, step-accepted}
 use Rattle.model.proofs.Serve.{serving, serve-taken}
 use Rattle.model.proofs.Clock.{next-range}
 use Rattle.model.proofs.Run.{replayed-turns-most, replayed-tick-most}
@@ -60,34 +58,6 @@ step-refusal-fits s log bus room words =
     (λ _. orElse-fits (logRefusal s log) _ (log-fits s log)
     (λ _. orElse-fits (refuseIf _ (refuse 16 0 0)) _ (nowhere _ 16 (omega arith)) (λ _. nowhere _ 6 (omega arith))))
 
--- What a step that is not refused was handed: a valid sheet, and a record in range.
-pub record StepAccepted (s : List ℕ) (bus : Bus) : Type 0 where
-  pub valid : Valid s
-  pub tickTo : bus .tick ≤ maxTime
-  pub turnsTo : bus .turns ≤ maxTime
-  pub nodeFrom : 1 ≤ bus .node
-  pub nodeTo : bus .node ≤ nodes s
-
-pub step-accepted : (s log : List ℕ) (bus : Bus) (room : ℕ) → stepRefusal s log bus room .number ≡ 0 → StepAccepted s bus
-unfolding stepRefusal recordRefusal
-step-accepted s log bus room e =
-    let tick = ltb maxTime (bus .tick) in
-    let turns = ltb maxTime (bus .turns) in
-    let node = outside 1 (nodes s) (bus .node) in
-    let sheet = orElse-both (sheetRefusal s) _ e in
-    let logs = orElse-both (logRefusal s log) _ (sheet .1) in
-    let bad = orElse-both (refuseIf (tick || turns || node) (refuse 16 0 0)) _ (logs .1) in
-    let all = or-neither (tick || turns) node (refuseIf-none (tick || turns || node) (refuse 16 0 0) (suc-ne-zero 15) (bad .0)) in
-    let two = or-neither tick turns (all .0) in
-    let range = within 1 (nodes s) (bus .node) (all .1) in
-    record {
-      valid = sheet .0;
-      tickTo = ltb-false maxTime (bus .tick) (two .0);
-      turnsTo = ltb-false maxTime (bus .turns) (two .1);
-      nodeFrom = range .0;
-      nodeTo = range .1;
-    }
-
 -- A turn of a record in range takes at most 16 messages, and the next starts at most a longest turn later.
 pub record NextFits (s : List ℕ) (bus : Bus) (taken : ℕ) : Type 0 where
   pub few : taken ≤ 16
@@ -95,7 +65,7 @@ pub record NextFits (s : List ℕ) (bus : Bus) (taken : ℕ) : Type 0 where
   pub node : nextBus s bus taken .node ≤ 16
   pub turns : nextBus s bus taken .turns ≤ maxTime + 1
 
-pub next-fits : (s log : List ℕ) (bus : Bus) (begins : List ℕ) → StepAccepted s bus → NextFits s bus (serveTurn s log bus begins .taken)
+pub next-fits : (s log : List ℕ) (bus : Bus) (begins : List ℕ) {room : ℕ} → StepAccepted s log bus room → NextFits s bus (serveTurn s log bus begins .taken)
 unfolding nextBus
 next-fits s log bus begins ok =
     let fits = valid-fits s (ok .valid) in
@@ -116,5 +86,5 @@ unfolding stepAnswer
 step-fits s log bus room words =
     orElse-fits (stepRefusal s log bus (length room)) _ (step-refusal-fits s log bus (length room) words)
     (λ e.
-    let next = next-fits s log bus room (step-accepted s log bus (length room) e) in
+    let next = next-fits s log bus room (step-accepted e) in
     record { number = omega arith; second = omega (arith, next .few); third = omega (arith, next .tick) })

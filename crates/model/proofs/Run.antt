@@ -9,11 +9,12 @@ use native.Mathlib.Nat.{eq-or-lt-of-le, le-antisymm}
 use native.Mathlib.Decide.{decLe}
 use native.Mathlib.Omega.{arith}
 use lib.Dec.{ltb}
-use borrow.Author.Tests.{ltb-true, ltb-false, le-ltb}
+use lib.ListN.{length}
+use borrow.Author.Tests.{ltb-true, ltb-false, lt-ltb, le-ltb}
 use Rattle.model.specs.Limits.{maxBudget, maxSlotTicks}
 use Rattle.model.specs.Sheet.{nodes, messageTicks, slotTicks, budget}
-use Rattle.model.specs.Protocol.{State, turn, start, stateAt, startOf, TurnsBefore, run, replayed}
-use Rattle.model.proofs.Clock.{turn-least, turn-longest, next-state, next-start, turns-counted, start-at-least}
+use Rattle.model.specs.Protocol.{releases, State, turn, start, stateAt, startOf, TurnsBefore, run, replayed}
+use Rattle.model.proofs.Clock.{turn-least, turn-longest, next-state, next-start, turns-counted, start-at-least, begins-length}
 
 -- A run from the state before turn i ends in that before turn `count`, and its turns are those that start before the horizon.
 record Reached (s log : List ℕ) (horizon fuel i : ℕ) : Type 0 where
@@ -60,6 +61,18 @@ module _ (s log : List ℕ) (horizon : ℕ) where
         go false late ih =
             let done : horizon ≤ st .bus .tick = ltb-false (st .bus .tick) horizon late in
             run-done (suc fuel) st done ∙ sym (run-done (suc more) st done)
+
+    -- A turn that starts before the horizon leaves the rest of the run, with the horizon as fuel.
+    pub run-next : (st : State)
+        → st .bus .tick < horizon
+        → run s log horizon horizon st ≡ run s log horizon horizon (turn s log st)
+    run-next st early = go horizon refl
+      where
+        go : (fuel : ℕ) → fuel ≡ horizon → run s log horizon fuel st ≡ run s log horizon fuel (turn s log st)
+        go zero same = absurd (omega arith)
+        go (suc fuel) same =
+            run-on fuel st (lt-ltb (st .bus .tick) horizon early)
+            ∙ run-fuel fuel (suc fuel) (turn s log st) (omega (arith, turn-least s log st)) (omega arith)
 
     -- Fuel enough reaches the horizon.
     reached : (fuel i : ℕ) → horizon ≤ startOf s log i + fuel → Reached s log horizon fuel i
@@ -112,6 +125,10 @@ module _ (s log : List ℕ) (horizon : ℕ) where
     -- The replay ends in the protocol's state after the turns that it counts.
     pub replayed-state : replayed s log horizon ≡ stateAt s log (replayed s log horizon .bus .turns)
     replayed-state = ends-in ∙ ap (stateAt s log) (sym counted)
+
+    -- The replay leaves a begin word for each release.
+    pub replayed-length : length (replayed s log horizon .begins) ≡ releases log
+    replayed-length = ap (λ st. length (st .begins)) replayed-state ∙ begins-length s log (replayed s log horizon .bus .turns)
 
     -- The turns that the replay counts are those that start before the horizon.
     pub replayed-turns : TurnsBefore s log horizon (replayed s log horizon .bus .turns)

@@ -1,13 +1,14 @@
 -- Sums over the nodes of a valid sheet: streams up to a node, and the full cycle. Assumes nothing.
 use Prim.Native.Nat.{ℕ, zero, suc, _+_, _*_, _≤_, _<_}
 use native.Mathlib.Nat.{mul-le-mul, le-refl, eq-or-lt-of-le}
+use native.Mathlib.Numerals.{add-one}
 use native.Mathlib.Omega.{arith}
-use mathlib.Core.Path.{_≡_, refl}
+use mathlib.Core.Path.{_≡_, refl, ap₂}
 use mathlib.Core.Logic.{_⊎_, inl, inr}
 use mathlib.Core.List.{List}
 use lib.ListN.{length}
 use Rattle.model.specs.Limits.{maxStreams, maxBudget, streamWords}
-use Rattle.model.specs.Sheet.{nodes, streamCount, streamsUpTo, streamsBefore, totalStreams, budgetsUpTo, cycle, streamAt, OnSheet}
+use Rattle.model.specs.Sheet.{nodes, streamCount, streamsUpTo, streamsBefore, totalStreams, budgetsUpTo, cycle, contentsWords, bodyPlace, streamAt, OnSheet}
 use Rattle.model.proofs.ValidSheet.{SheetFits}
 
 -- The streams up to a later node are no fewer.
@@ -74,3 +75,22 @@ module _ (s : List ℕ) (fits : SheetFits s) where
       let h = fits .header in
       let sum : budgetsUpTo s (nodes s) ≤ 256 = omega (arith, budgets-most (nodes s) (le-refl _), h .nodesTo) in
       omega (arith, mul-le-mul sum (h .messageTo), mul-le-mul (h .nodesTo) (h .slotTo))
+
+-- The streams before the next node and its own are those up to it,
+pub streams-next : (s : List ℕ) (i : ℕ) {sum count : ℕ}
+    → sum ≡ streamsUpTo s i
+    → count ≡ streamCount s (i + 1)
+    → sum + count ≡ streamsUpTo s (i + 1)
+unfolding streamsUpTo
+streams-next s i {sum} {count} e f = rw (add-one i) (ap₂ _+_ e (rw (add-one i) at f))
+
+-- so that the next body stands after theirs,
+pub body-next : (s : List ℕ) (i : ℕ) {at : ℕ}
+    → at ≡ contentsWords s + streamWords * streamsUpTo s i
+    → at ≡ bodyPlace s (i + 1)
+body-next s i e = rw (add-one i) e
+
+-- and they are not more than all.
+pub streams-room : (s : List ℕ) (i : ℕ) → i < nodes s → streamsUpTo s i + streamCount s (i + 1) ≤ totalStreams s
+unfolding streamsUpTo
+streams-room s i inside = rw (add-one i) (streams-grow s (suc i) (nodes s) inside)

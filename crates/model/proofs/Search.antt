@@ -25,18 +25,32 @@ late-not-listed late listed = let z : _≡_ {A = ℕ} 0 1 = cc in omega arith
 
 module _ (higher : List Stream) (cycle m ticks deadline : ℕ) where
   -- The verdict is late where the delivery after that wait passes the deadline.
-  pub verdict-late : (J : ℕ)
+  verdict-late : (J : ℕ)
       → deadline < deliveredAfter ticks (waitFor higher cycle m ticks J)
       → verdictAt higher cycle m ticks deadline J ≡ Late
   unfolding verdictAt
   verdict-late J h = rw (lt-ltb _ _ h)
 
   -- Otherwise it lists the wait and J.
-  pub verdict-listed : (J : ℕ)
+  verdict-listed : (J : ℕ)
       → deliveredAfter ticks (waitFor higher cycle m ticks J) ≤ deadline
       → verdictAt higher cycle m ticks deadline J ≡ Listed (waitFor higher cycle m ticks J) J
   unfolding verdictAt
   verdict-listed J h = rw (le-ltb _ _ h)
+
+  -- The same for a program that holds the wait: the verdict is late,
+  pub late-by : (J : ℕ) {w : ℕ}
+      → w ≡ waitFor higher cycle m ticks J
+      → deadline < w + ticks
+      → Late ≡ verdictAt higher cycle m ticks deadline J
+  late-by J same h = sym (verdict-late J (rw same at h))
+
+  -- or it lists that wait.
+  pub listed-by : (J : ℕ) {w : ℕ}
+      → w ≡ waitFor higher cycle m ticks J
+      → w + ticks ≤ deadline
+      → Listed w J ≡ verdictAt higher cycle m ticks deadline J
+  listed-by J same h = rw same (sym (verdict-listed J (rw same at h)))
 
   -- The search ends at a number that suffices.
   pub search-found : (tries from : ℕ)

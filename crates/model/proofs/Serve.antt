@@ -38,7 +38,13 @@ module _ (s log : List ℕ) (k tick : ℕ) where
       → serve s log k tick (suc left) j begins
       ≡ serve s log k tick left (suc j) (set begins (firstWaiting s log k tick begins) (tick + j * messageTicks s))
   unfolding serve
-  serve-take left j begins waits = rw (waits, serve)
+  serve-take left j begins waits =
+      ap
+      (λ (b : Bool). elim b [
+        | true ↦ serve s log k tick left (suc j) (set begins (firstWaiting s log k tick begins) (tick + j * messageTicks s))
+        | false ↦ record { taken = j; begins = begins }
+      ])
+      waits
 
   -- Nobody waits: the turn ends.
   pub serve-stop : (left j : ℕ) (begins : List ℕ)

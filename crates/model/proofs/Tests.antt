@@ -7,6 +7,11 @@ use borrow.Author.Tests.{ltb-false, lt-ltb}
 use lib.Dec.{ltb}
 use Rattle.model.specs.Refusal.{outside}
 
+-- A test that cannot hold fails.
+pub fails : (b : Bool) → (b ≡ true → ⊥) → b ≡ false
+fails true h = absurd (h refl)
+fails false h = refl
+
 -- "And" is true exactly where both tests are.
 pub and-reading : (a b : Bool) → (a && b ≡ true) ↔ ((a ≡ true) × (b ≡ true))
 and-reading true b = (λ e. (refl, e), λ both. both .1)
@@ -21,6 +26,14 @@ or-reading false b = (λ e. inr e, λ one. ⊎-elim (λ e. absurd (false≢true 
 pub or-neither : (a b : Bool) → (a || b) ≡ false → (a ≡ false) × (b ≡ false)
 or-neither true b e = absurd (true≢false e)
 or-neither false b e = (refl, e)
+
+-- The first test holds, and so does "or";
+pub or-first : {a : Bool} (b : Bool) → a ≡ true → (a || b) ≡ true
+or-first b e = rw e refl
+
+-- or it fails, and "or" is the second.
+pub or-second : {a b r : Bool} → a ≡ false → b ≡ r → (a || b) ≡ r
+or-second first second = rw first second
 
 -- A number that is not outside is in range.
 pub within : (least most x : ℕ) → outside least most x ≡ false → (least ≤ x) × (x ≤ most)

@@ -5,9 +5,9 @@ use mathlib.Core.Bool.{Bool, true, false, _&&_, and-false, and-eq-true-iff}
 use mathlib.Core.List.{List}
 use native.Mathlib.Nat.{le-refl}
 use lib.Dec.{leb, eqb}
-use borrow.Author.Tests.{leb-true, le-leb, eqb-true, eq-eqb, ne-eqb}
+use borrow.Author.Tests.{leb-true, le-leb, lt-leb, le-ltb, eqb-true, eq-eqb, ne-eqb}
 use Rattle.model.specs.Limits.{notBegun}
-use Rattle.model.specs.Sheet.{word}
+use Rattle.model.specs.Sheet.{word, streamsBefore, streamsUpTo}
 use Rattle.model.specs.Protocol.{releases, releaseTick, releaseStream, ofNode, queuedBefore, waiting, firstWaiting}
 use Rattle.model.proofs.Order.{TotalOn}
 use Rattle.model.proofs.First.{IsFirst, first-holds, first-none, first-some}
@@ -43,6 +43,21 @@ module _ (s log : List ℕ) (k tick : ℕ) (begins : List ℕ) where
   pub waiting-begun : (i : ℕ) → (word begins i ≡ notBegun → ⊥) → waiting s log k tick begins i ≡ false
   unfolding waiting
   waiting-begun i begun = rw (ne-eqb (word begins i) notBegun begun, and-false)
+
+  -- A release after the tick does not wait.
+  pub waiting-later : (i : ℕ) → tick < releaseTick log i → waiting s log k tick begins i ≡ false
+  unfolding waiting
+  waiting-later i late = rw (lt-leb (releaseTick log i) tick late)
+
+  -- A release of a node before does not wait.
+  pub waiting-below : (i : ℕ) → releaseStream log i ≤ streamsBefore s k → waiting s log k tick begins i ≡ false
+  unfolding waiting ofNode
+  waiting-below i low = rw (le-ltb (streamsBefore s k) (releaseStream log i) low, and-false)
+
+  -- A release of a node after does not wait.
+  pub waiting-above : (i : ℕ) → streamsUpTo s k < releaseStream log i → waiting s log k tick begins i ≡ false
+  unfolding waiting ofNode
+  waiting-above i high = rw (lt-leb (releaseStream log i) (streamsUpTo s k) high, and-false, and-false)
 
   -- Only the release's own word matters.
   pub waiting-same : (after : List ℕ) (i : ℕ)

@@ -22,8 +22,8 @@ fn read_file(i: usize, bytes: &mut [u8]) -> usize
 }
 
 // One line of the table.
-fn row(release: u32, begin: u32) {
-    report::number(release);
+fn row(release: usize, begin: u32) {
+    report::count(release);
     if begin == 4294967295 {
         report::text(b" -\n");
         return;
@@ -34,17 +34,17 @@ fn row(release: u32, begin: u32) {
 }
 
 // The lines of all releases, counted from 1.
-fn rows(begins: &[u32], count: u32) {
-    let mut i: u32 = 0;
+fn rows(begins: &[u32], count: usize) {
+    let mut i: usize = 0;
     while i < count {
-        let begin = layout::word_at(begins, layout::wide(i));
+        let begin = layout::word_at(begins, i);
         i += 1;
         row(i, begin);
     }
 }
 
 // The table and the line under it.
-fn table(begins: &[u32], count: u32, turns: u32, next: u32) {
+fn table(begins: &[u32], count: usize, turns: u32, next: u32) {
     report::text(b"release begin\n");
     rows(begins, count);
     report::text(b"turns ");
@@ -62,10 +62,7 @@ fn run(sheet: &[u32], log: &[u32], horizon: u32) {
         report::refusal(answer);
         return;
     }
-    let count = log.len() / 2;
-    if count <= 4096 {
-        table(&room, count as u32, answer.second, answer.third);
-    }
+    table(&room, log.len() / 2, answer.second, answer.third);
 }
 
 // One byte more than is allowed is read of each file, so that a longer one is seen as such. A second file with no words is handed

@@ -13,6 +13,11 @@ pub fn number(n: u32) -> bool {
     io::print_decimal(STDOUT_FILENO, n as u64)
 }
 
+// A count in decimal.
+pub fn count(n: usize) -> bool {
+    io::print_decimal(STDOUT_FILENO, n as u64)
+}
+
 // "A refusal writes one line only, as `refused 7 at 1 2`."
 pub fn refusal(answer: Answer) -> bool {
     text(b"refused ");

@@ -13,7 +13,7 @@ use Rattle.model.specs.Refusal.{refuse}
 use Rattle.model.specs.Sheet.{totalStreams}
 use Rattle.model.specs.Answers.{roomRefusal, listedWaits, bufferAfter, admitAnswer, admitBuffer}
 use Rattle.model.proofs.Refusals.{refused, passed, refuseIf-so, refuseIf-not}
-use Rattle.analysis.proofs.Buffer.{buffer-kept}
+use Rattle.model.proofs.Buffer.{buffer-kept}
 use Rattle.analysis.proofs.admit.Statement.{statement}
 use Rattle.analysis.proofs.admit.Tie as tie
 

@@ -5,7 +5,7 @@ use mathlib.Core.Path.{ap, _∙_}
 use borrow.Author.Needs.{needs}
 use Rattle.model.specs.Answers.{verdictAnswer, oneStreamAnswer}
 use Rattle.model.proofs.Refusals.{refused, passed}
-use Rattle.analysis.proofs.Asked.{known-on}
+use Rattle.model.proofs.Asked.{known-on}
 use Rattle.analysis.proofs.one_stream.Statement.{statement}
 use Rattle.analysis.proofs.one_stream.Tie as tie
 

@@ -8,7 +8,9 @@ use lib.Seq.{take-at, drop-at}
 use Rattle.model.specs.Limits.{notBegun}
 use Rattle.model.specs.Protocol.{releases}
 use Rattle.bus.specs.Replay.{replayRefusal}
-use Rattle.bus.proofs.ReplayOutcome.{ReplayChecked, replay-checked, replay-refused, replay-done, outcome-demand}
+use Rattle.model.proofs.NotRefused.{ReplayAccepted}
+use Rattle.bus.proofs.AcceptedLog.{log-rises}
+use Rattle.bus.proofs.ReplayOutcome.{replay-checked, replay-refused, replay-done, outcome-demand}
 use Rattle.bus.proofs.replay.Statement.{statement}
 use Rattle.bus.proofs.replay.Tie as tie
 
@@ -26,8 +28,10 @@ none : (c : tie.Else1)
     → replayRefusal (c .before .before .before .before .before .before .args .sheet .now) (c .before .before .before .before .before .before .args .log .now) (c .before .before .before .before .before .before .args .horizon) (length (c .before .before .before .before .before .before .args .room .now)) .number ≡ 0
 none c = rw (c .before .before .check-replay .ensures) at (c .if1 .left)
 
-checked : (c : tie.Else1) → ReplayChecked (c .before .before .before .before .before .before .args .sheet .now) (c .before .before .before .before .before .before .args .log .now) (c .before .before .before .before .before .before .args .horizon) (length (c .before .before .before .before .before .before .args .room .now))
-checked c = replay-checked _ _ _ _ (none c)
+checked : (c : tie.Else1) → ReplayAccepted (c .before .before .before .before .before .before .args .sheet .now) (c .before .before .before .before .before .before .args .log .now) (c .before .before .before .before .before .before .args .horizon) (length (c .before .before .before .before .before .before .args .room .now))
+checked c =
+    let a = c .before .before .before .before .before .before .args in
+    replay-checked (a .sheet .now) (a .log .now) (a .horizon) (a .room .now) (none c)
 
 clear-requires : tie.Need-clear-requires
 clear-requires c κs = checked (c .before) .roomFor
@@ -38,7 +42,7 @@ run-to-requires c κs =
     let n = releases (a .log .now) in
     let ok = checked (c .before .before .before .before .before) in
     let clear = c .before .before .before .clear in (
-      (ok .valid, ok .rising, ok .horizonTo, omega (arith, ok .roomFor, clear .kept .0)),
+      (ok .valid, log-rises _ _ (ok .logged), ok .horizonTo, omega (arith, ok .roomFor, clear .kept .0)),
       rw (clear .ensures) (take-at (replicate n notBegun) (drop n (a .room .now)) n (length-replicate n notBegun)),
     )
 

@@ -6,7 +6,9 @@ use borrow.Author.Needs.{needs}
 use lib.ListN.{length}
 use Rattle.model.specs.Answers.{stepRefusal}
 use Rattle.bus.proofs.TurnSteps.{taken-few}
-use Rattle.bus.proofs.StepOutcome.{StepChecked, step-checked, step-refused, step-served}
+use Rattle.model.proofs.NotRefused.{StepAccepted, step-accepted}
+use Rattle.bus.proofs.AcceptedLog.{log-rises}
+use Rattle.bus.proofs.StepOutcome.{step-node, step-refused, step-served}
 use Rattle.bus.proofs.turn.Statement.{statement}
 use Rattle.bus.proofs.turn.Tie as tie
 
@@ -24,26 +26,23 @@ none : (c : tie.Else1)
     → stepRefusal (c .before .before .before .before .before .before .args .sheet .now) (c .before .before .before .before .before .before .args .log .now) (c .before .before .before .before .before .before .args .bus) (length (c .before .before .before .before .before .before .args .room .now)) .number ≡ 0
 none c = rw (c .before .before .check-step .ensures) at (c .if1 .left)
 
-checked : (c : tie.Else1) → StepChecked (c .before .before .before .before .before .before .args .sheet .now) (c .before .before .before .before .before .before .args .log .now) (c .before .before .before .before .before .before .args .bus) (length (c .before .before .before .before .before .before .args .room .now))
-checked c = step-checked _ _ _ _ (none c)
+checked : (c : tie.Else1) → StepAccepted (c .before .before .before .before .before .before .args .sheet .now) (c .before .before .before .before .before .before .args .log .now) (c .before .before .before .before .before .before .args .bus) (length (c .before .before .before .before .before .before .args .room .now))
+checked c = step-accepted (none c)
 
 arrived-by-requires : tie.Need-arrived-by-requires
-arrived-by-requires c κs = (checked c .rising, omega arith, λ i below. absurd (not-suc-le-zero below))
+arrived-by-requires c κs = (log-rises _ _ (checked c .logged), omega arith, λ i below. absurd (not-suc-le-zero below))
 
 run-turn-requires : tie.Need-run-turn-requires
 run-turn-requires c κs =
     let ok = checked (c .before .before) in
-    let arrived = c .before .arrived-by .ensures .0 in (
-      (ok .node, ok .inRange .tickTo, ok .roomFor),
-      record { ordered = omega arith; begun = λ i below. absurd (not-suc-le-zero below); arrived = arrived },
-    )
+    ((step-node ok, ok .tickTo, ok .roomFor), c .before .arrived-by .ensures .0)
 
 next-bus-requires : tie.Need-next-bus-requires
 next-bus-requires c κs =
     let a = c .before .before .before .before .before .before .before .before .before .before .before .args in
     let ok = checked (c .before .before .before .before .before) in
-    let few = taken-few (a .sheet .now) (a .log .now) (a .bus) (a .room .now) (ok .node) in
-    (ok .node, ok .inRange .tickTo, ok .inRange .turnsTo, rw (c .before .before .run-turn .ensures .0) few)
+    let few = taken-few (a .sheet .now) (a .log .now) (a .bus) (a .room .now) (step-node ok) in
+    (step-node ok, ok .tickTo, ok .turnsTo, rw (c .before .before .run-turn .ensures .0) few)
 
 same-length : tie.Need-same-length
 same-length c = search needs

@@ -1,11 +1,11 @@
 -- `layout::streams_up_to` meets its contract: the sum so far is that of the nodes passed.
 -- Assumes nothing.
-use Prim.Native.Nat.{_≤_, _*_, _-_, _+_}
-use mathlib.Core.Path.{_≡_, refl, ap₂, _∙_}
+use Prim.Native.Nat.{_≤_, _*_, _-_}
+use mathlib.Core.Path.{_≡_, refl, _∙_}
 use native.Mathlib.Omega.{arith}
-use native.Mathlib.Numerals.{add-one}
 use borrow.Author.Needs.{needs}
 use Rattle.model.specs.Sheet.{streamsUpTo}
+use Rattle.model.proofs.RunningSums.{streams-next}
 use Rattle.layout.proofs.streams_up_to.Statement.{statement}
 use Rattle.layout.proofs.streams_up_to.Tie as tie
 
@@ -35,11 +35,10 @@ loop-less : tie.Need-loop-less Inv-loop μ-loop
 loop-less c = omega arith
 
 loop-again : tie.Need-loop-again Inv-loop μ-loop
-unfolding streamsUpTo
 loop-again c =
-    let i = c .before .before .before .loop .i in
-    let here = c .wide .ensures .0 ∙ (rw (add-one i) at (c .before .stream-count .ensures)) in
-    (omega arith, rw (add-one i) (ap₂ _+_ (c .before .before .before .loop .inv .1) here), omega arith)
+    let sheet = c .before .before .before .before .before .args .sheet .now in
+    let here = c .wide .ensures .0 ∙ c .before .stream-count .ensures in
+    (omega arith, streams-next sheet _ (c .before .before .before .loop .inv .1) here, omega arith)
 
 returns : tie.Need-returns Inv-loop μ-loop
 returns c =

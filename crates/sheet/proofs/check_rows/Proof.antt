@@ -1,12 +1,12 @@
 -- `sheet::check_rows` meets its contract: what is left of the row of checks equals the whole, and `at` is where the next body must be.
 -- Assumes nothing.
 use Prim.Native.Nat.{_≤_, _*_, _-_, _+_}
-use mathlib.Core.Path.{_≡_, _∙_}
+use mathlib.Core.Path.{_≡_, refl, _∙_}
 use native.Mathlib.Omega.{arith}
-use native.Mathlib.Numerals.{add-one}
 use borrow.Author.Needs.{needs}
 use Rattle.model.proofs.Refusals.{rest, rest-start, rest-on, rest-stop, rest-end}
 use Rattle.model.proofs.ValidSheet.{row-fits}
+use Rattle.model.proofs.RunningSums.{streams-next, body-next}
 use Rattle.model.specs.Refusal.{firstOf}
 use Rattle.model.specs.Sheet.{streamsUpTo, contentsWords, rowRefusal}
 use Rattle.sheet.proofs.check_rows.Statement.{statement}
@@ -29,7 +29,7 @@ add-check-row : tie.Need-add-check-row Inv-loop μ-loop
 add-check-row c = omega arith
 
 check-row-requires : tie.Need-check-row-requires Inv-loop μ-loop
-check-row-requires c κs = rw (add-one (c .before .loop .i)) (c .before .loop .inv .1)
+check-row-requires c κs = body-next (c .before .before .before .before .args .sheet .now) (c .before .loop .i) (c .before .loop .inv .1)
 
 returns : tie.Need-returns Inv-loop μ-loop
 returns c = rest-stop (rowRefusal (c .before .before .before .before .before .before .before .args .sheet .now)) _ _ (c .before .before .before .loop-test .taken) (c .before .before .check-row .ensures) (c .if1 .taken) (c .before .before .before .before .loop .inv .3)
@@ -56,16 +56,15 @@ loop-less : tie.Need-loop-less Inv-loop μ-loop
 loop-less c = omega arith
 
 loop-again : tie.Need-loop-again Inv-loop μ-loop
-unfolding streamsUpTo
 loop-again c =
     let i = c .before .before .before .before .before .before .loop .i in
     let inv = c .before .before .before .before .before .before .loop .inv in
     let row = c .before .before .before .before .check-row .ensures in
     let fits = row-fits (c .before .before .before .before .before .before .before .before .before .args .sheet .now) (i + 1) (rw row at (c .before .before .if1 .left)) in
     let count = c .wide .ensures .0 ∙ c .before .stream-count .ensures in
-    let next = rw (add-one i) at count in (
+    let sum = streams-next (c .before .before .before .before .before .before .before .before .before .args .sheet .now) i refl count in (
       omega arith,
-      rw (add-one i) (omega (arith, inv .1, next)),
+      omega (arith, inv .1, sum),
       omega (arith, inv .2, count, fits .streamsTo),
       rest-on (rowRefusal (c .before .before .before .before .before .before .before .before .before .args .sheet .now)) i _ (c .before .before .before .before .before .loop-test .taken) row (c .before .before .if1 .left) (inv .3),
     )

@@ -1,57 +1,18 @@
--- `bus::checks::check_step` meets its contract: each part's answer is the chain's where it refuses, and hands on to the next where
--- it does not. Assumes nothing.
+-- `bus::checks::check_step` meets its contract: the check of its own in the chain is the definition's. Assumes nothing.
 use borrow.Author.Needs.{needs}
 use Rattle.model.specs.Answers.{stepRefusal}
-use Rattle.model.proofs.Refusals.{refused, passed}
 use Rattle.bus.proofs.checks.check_step.Statement.{statement}
 use Rattle.bus.proofs.checks.check_step.Tie as tie
-
-check-sheet-requires : tie.Need-check-sheet-requires
-check-sheet-requires c κs = search needs
-
-returns : tie.Need-returns
-unfolding stepRefusal
-returns c = refused _ (c .before .before .check-sheet .ensures) (c .if1 .taken)
-
-check-log-requires : tie.Need-check-log-requires
-check-log-requires c κs = search needs
-
-returns-2 : tie.Need-returns-2
-unfolding stepRefusal
-returns-2 c =
-    passed (c .before .before .before .before .before .check-sheet .ensures) (c .before .before .before .if1 .left)
-    (refused _ (c .before .before .check-log .ensures) (c .if2 .taken))
 
 check-record-requires : tie.Need-check-record-requires
 check-record-requires c κs = search needs
 
-returns-3 : tie.Need-returns-3
-unfolding stepRefusal
-returns-3 c =
-    passed (c .before .before .before .before .before .before .before .before .check-sheet .ensures) (c .before .before .before .before .before .before .if1 .left)
-    (passed (c .before .before .before .before .before .check-log .ensures) (c .before .before .before .if2 .left)
-    (refused _ (c .before .before .check-record .ensures) (c .if3 .taken)))
+check-input-requires : tie.Need-check-input-requires
+check-input-requires c κs = search needs
 
-check-room-requires : tie.Need-check-room-requires
-check-room-requires c κs = search needs
-
-returns-4 : tie.Need-returns-4
+returns : tie.Need-returns
 unfolding stepRefusal
-returns-4 c =
-    passed (c .before .before .before .before .before .before .before .before .before .check-sheet .ensures) (c .before .before .before .before .before .before .before .if1 .left)
-    (passed (c .before .before .before .before .before .before .check-log .ensures) (c .before .before .before .before .if2 .left)
-    (passed (c .before .before .before .check-record .ensures) (c .before .if3 .left)
-    (c .check-room .ensures)))
+returns c = rw (c .before .check-record .ensures) at (c .check-input .ensures)
 
 pub check-step-spec : {M : Type 1} → statement M
-check-step-spec =
-    tie.close
-    (tie.spec
-    check-sheet-requires
-    returns
-    check-log-requires
-    returns-2
-    check-record-requires
-    returns-3
-    check-room-requires
-    returns-4)
+check-step-spec = tie.close (tie.spec check-record-requires check-input-requires returns)

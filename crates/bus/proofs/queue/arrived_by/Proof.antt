@@ -5,7 +5,7 @@ use native.Mathlib.Omega.{arith}
 use borrow.Author.Count.{below-more}
 use Rattle.model.specs.Protocol.{releaseTick}
 use Rattle.bus.specs.Queue.{ReleasedBefore}
-use Rattle.bus.proofs.Windows.{rises-on}
+use Rattle.bus.proofs.AcceptedLog.{rises-on}
 use Rattle.bus.proofs.queue.arrived_by.Statement.{statement}
 use Rattle.bus.proofs.queue.arrived_by.Tie as tie
 

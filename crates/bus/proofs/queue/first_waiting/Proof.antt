@@ -1,40 +1,39 @@
 -- `bus::queue::first_waiting` meets its contract: at each release the scan has found the first in the queue among those before.
 -- Assumes nothing.
-use Prim.Native.Nat.{_-_, _≤_}
+use Prim.Native.Nat.{_-_, _≤_, zero-le}
 use native.Mathlib.Omega.{arith}
 use mathlib.Core.Path.{_≡_, ap, _∙_}
 use borrow.Author.Needs.{needs}
 use Rattle.model.specs.Protocol.{releaseStream}
 use Rattle.model.proofs.ValidSheet.{valid-fits}
-use Rattle.model.proofs.Waiting.{waiting-begun}
+use Rattle.model.proofs.Waiting.{waiting-begun, waiting-below, waiting-above}
 use Rattle.bus.specs.Queue.{rankKey}
-use Rattle.bus.proofs.FirstWithin.{waiting-below, waiting-above}
 use Rattle.bus.proofs.RankKey.{Own, key-there, key-read}
 use Rattle.bus.proofs.Scan.{Scanned, scan-start, scan-on, scan-end, scan-behind, scan-ahead}
 use Rattle.bus.proofs.queue.first_waiting.Statement.{statement}
 use Rattle.bus.proofs.queue.first_waiting.Tie as tie
 
 abbrev Inv-loop : tie.InvT-loop
-Inv-loop sheet log node tick from to room before last body first₀ first-key₀ i₀ first first-key i =
+Inv-loop sheet log node tick to room before last body first₀ first-key₀ i₀ first first-key i =
     (i ≤ to) × Scanned sheet log node tick room i first first-key
 
 abbrev μ-loop : tie.MeasureT-loop
-μ-loop sheet log node tick from to room before last body first₀ first-key₀ i₀ first first-key i = to - i
+μ-loop sheet log node tick to room before last body first₀ first-key₀ i₀ first first-key i = to - i
 
 streams-of-requires : tie.Need-streams-of-requires Inv-loop μ-loop
 streams-of-requires c κs = c .before .before .before .pre .0 .0
 
 loop-holds : tie.Need-loop-holds Inv-loop μ-loop
-loop-holds c = let window = c .before .before .before .before .pre .1 in (window .ordered, scan-start window)
+loop-holds c = (zero-le, scan-start)
 
 add-i : tie.Need-add-i Inv-loop μ-loop
-add-i c = omega (arith, c .before .before .before .before .before .before .pre .1 .arrived .inLog)
+add-i c = omega (arith, c .before .before .before .before .before .before .pre .1 .inLog)
 
 mul-if1 : tie.Need-mul-if1 Inv-loop μ-loop
-mul-if1 c = omega (arith, c .before .before .before .before .before .before .pre .1 .arrived .inLog)
+mul-if1 c = omega (arith, c .before .before .before .before .before .before .pre .1 .inLog)
 
 shared-slice-read-if1 : tie.Need-shared-slice-read-if1 Inv-loop μ-loop
-shared-slice-read-if1 c = omega (arith, c .before .before .before .before .before .before .before .pre .0 .1, c .before .before .before .before .before .before .before .pre .1 .arrived .inLog)
+shared-slice-read-if1 c = omega (arith, c .before .before .before .before .before .before .before .pre .0 .1, c .before .before .before .before .before .before .before .pre .1 .inLog)
 
 loop-less : tie.Need-loop-less Inv-loop μ-loop
 loop-less c = omega arith
@@ -46,16 +45,16 @@ loop-again c =
     (omega arith, scan-on begun (c .before .before .before .loop .inv .1))
 
 mul-wide : tie.Need-mul-wide Inv-loop μ-loop
-mul-wide c = omega (arith, c .before .before .before .before .before .before .before .before .pre .1 .arrived .inLog)
+mul-wide c = omega (arith, c .before .before .before .before .before .before .before .before .pre .1 .inLog)
 
 add-wide : tie.Need-add-wide Inv-loop μ-loop
-add-wide c = omega (arith, c .before .before .before .before .before .before .before .before .pre .1 .arrived .inLog)
+add-wide c = omega (arith, c .before .before .before .before .before .before .before .before .pre .1 .inLog)
 
 mul-wide-2 : tie.Need-mul-wide-2 Inv-loop μ-loop
-mul-wide-2 c = omega (arith, c .before .before .before .before .before .before .before .before .pre .1 .arrived .inLog)
+mul-wide-2 c = omega (arith, c .before .before .before .before .before .before .before .before .pre .1 .inLog)
 
 shared-slice-read-wide : tie.Need-shared-slice-read-wide Inv-loop μ-loop
-shared-slice-read-wide c = omega (arith, c .before .before .before .before .before .before .before .before .before .pre .1 .arrived .inLog)
+shared-slice-read-wide c = omega (arith, c .before .before .before .before .before .before .before .before .before .pre .1 .inLog)
 
 wide-requires : tie.Need-wide-requires Inv-loop μ-loop
 wide-requires c κs = search needs
@@ -110,7 +109,7 @@ loop-again-4 : tie.Need-loop-again-4 Inv-loop μ-loop
 loop-again-4 c =
     let pre = c .before .before .before .before .before .before .before .before .before .before .before .before .before .before .pre in
     let inv = c .before .before .before .before .before .before .before .before .before .loop .inv in
-    (omega arith, scan-behind (pre .0 .0) _ (own (c .before .before)) (omega (arith, key (c .before), c .if4 .taken)) (omega (arith, pre .1 .arrived .inLog, c .before .before .before .before .before .before .before .before .loop-test .taken)) (inv .1))
+    (omega arith, scan-behind (pre .0 .0) _ (own (c .before .before)) (omega (arith, key (c .before), c .if4 .taken)) (omega (arith, pre .1 .inLog, c .before .before .before .before .before .before .before .before .loop-test .taken)) (inv .1))
 
 loop-less-5 : tie.Need-loop-less-5 Inv-loop μ-loop
 loop-less-5 c = omega arith
@@ -120,12 +119,12 @@ loop-again-5 c =
     let pre = c .before .before .before .before .before .before .before .before .before .before .before .before .before .before .pre in
     let inv = c .before .before .before .before .before .before .before .before .before .loop .inv in
     let i = c .before .before .before .before .before .before .before .before .before .loop .i in
-    (omega arith, rw (key (c .before)) (scan-ahead (pre .0 .0) i (own (c .before .before)) (pre .1 .arrived .released i (c .before .before .before .before .before .before .before .before .loop-test .taken)) (c .before .before .before .before .before .before .if1 .left) (omega (arith, key (c .before), c .if4 .left)) (inv .1)))
+    (omega arith, rw (key (c .before)) (scan-ahead (pre .0 .0) i (own (c .before .before)) (pre .1 .released i (c .before .before .before .before .before .before .before .before .loop-test .taken)) (c .before .before .before .before .before .before .if1 .left) (omega (arith, key (c .before), c .if4 .left)) (inv .1)))
 
 returns : tie.Need-returns Inv-loop μ-loop
 returns c =
-    let window = c .before .before .before .before .before .before .pre .1 in
-    scan-end window (omega (arith, c .loop-test .left, c .before .loop .inv .0)) (c .before .loop .inv .1)
+    let arrived = c .before .before .before .before .before .before .pre .1 in
+    scan-end arrived (omega (arith, c .loop-test .left, c .before .loop .inv .0)) (c .before .loop .inv .1)
 
 pub first-waiting-spec : {M : Type 1} → statement M
 first-waiting-spec =

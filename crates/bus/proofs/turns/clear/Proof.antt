@@ -13,7 +13,7 @@ abbrev Inv-loop : tie.InvT-loop
 Inv-loop room₀ count i₀ room i = (i ≤ count) × (length room ≡ length room₀) × (room ≡ replicate i notBegun ++ drop i room₀)
 
 abbrev μ-loop : tie.MeasureT-loop
-μ-loop room₀ count i₀ room i = count - i
+μ-loop room₀ count i₀ room i = length room₀ - i
 
 loop-holds : tie.Need-loop-holds Inv-loop μ-loop
 loop-holds c = (omega arith, refl, fill-none (c .args .room .now) notBegun)

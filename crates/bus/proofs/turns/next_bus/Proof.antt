@@ -2,10 +2,9 @@
 use Prim.Native.Nat.{_*_, _≤_}
 use native.Mathlib.Nat.{mul-le-mul}
 use native.Mathlib.Omega.{arith}
-use mathlib.Core.Path.{refl}
 use borrow.Author.Needs.{needs}
-use Rattle.model.specs.Protocol.{nextBus}
 use Rattle.model.proofs.ValidSheet.{valid-fits}
+use Rattle.bus.proofs.TurnSteps.{next-record}
 use Rattle.bus.proofs.turns.next_bus.Statement.{statement}
 use Rattle.bus.proofs.turns.next_bus.Tie as tie
 
@@ -40,8 +39,9 @@ add-t10 : tie.Need-add-t10
 add-t10 c = search needs
 
 returns : tie.Need-returns
-unfolding nextBus
-returns c = rw (c .before .before .before .before .next-node .ensures, c .before .before .before .word-at .ensures, c .before .before .word-at2 .ensures) refl
+returns c =
+    let a = c .before .before .before .before .before .before .args in
+    next-record (a .sheet .now) (a .bus) (a .taken) (c .before .before .before .before .next-node .ensures) (c .before .before .before .word-at .ensures) (c .before .before .word-at2 .ensures)
 
 pub next-bus-spec : {M : Type 1} → statement M
 next-bus-spec =

@@ -1,16 +1,14 @@
 -- `bus::turns::run_to` meets its contract: the rest of the run from the record and the buffer equals the whole, whether one turn is
 -- run or a stretch of silent ones is passed. Each moves the clock, so what is left to the horizon falls. Assumes nothing.
-use Prim.Native.Nat.{_≤_, _-_, zero-le}
-use native.Mathlib.Nat.{not-suc-le-zero}
+use Prim.Native.Nat.{_+_, _-_, _≤_}
 use native.Mathlib.Omega.{arith}
 use lib.ListN.{length}
 use Rattle.model.specs.Sheet.{slotTicks}
 use Rattle.model.specs.Protocol.{releases}
 use Rattle.model.proofs.ValidSheet.{valid-fits}
 use Rattle.model.proofs.Idle.{silent-before}
-use Rattle.bus.specs.Queue.{Window}
 use Rattle.bus.proofs.TurnSteps.{taken-few, clock-moves}
-use Rattle.bus.proofs.RunSteps.{Running, running-start, running-on, running-idle, running-done}
+use Rattle.bus.proofs.RunSteps.{Window, Running, running-start, running-on, running-idle, running-done}
 use Rattle.bus.proofs.turns.run_to.Statement.{statement}
 use Rattle.bus.proofs.turns.run_to.Tie as tie
 
@@ -18,7 +16,7 @@ abbrev Inv-loop : tie.InvT-loop
 Inv-loop sheet log horizon room₀ bus₀ from₀ to₀ room bus from to = Running sheet log horizon room₀ room bus from to
 
 abbrev μ-loop : tie.MeasureT-loop
-μ-loop sheet log horizon room₀ bus₀ from₀ to₀ room bus from to = horizon - bus .tick
+μ-loop sheet log horizon room₀ bus₀ from₀ to₀ room bus from to = horizon + 1 - bus .tick
 
 loop-holds : tie.Need-loop-holds Inv-loop μ-loop
 loop-holds c =
@@ -72,7 +70,7 @@ run-turn-requires c κs =
     let inv = c .before .before .before .before .before .before .before .loop .inv in
     let pre = c .before .before .before .before .before .before .before .before .before .before .before .pre .0 in (
       (inv .node, omega (arith, pre .2, c .before .before .before .before .before .if1 .taken), omega (arith, pre .3, inv .sameLength)),
-      record { ordered = zero-le; begun = λ i below. absurd (not-suc-le-zero below); arrived = c .before .before .before .before .arrived-by .ensures .0 },
+      c .before .before .before .before .arrived-by .ensures .0,
     )
 
 next-bus-requires : tie.Need-next-bus-requires Inv-loop μ-loop

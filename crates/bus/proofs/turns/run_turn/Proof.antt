@@ -10,21 +10,18 @@ use Rattle.model.specs.Limits.{maxTime}
 use Rattle.model.specs.Sheet.{messageTicks, budget as nodeBudget}
 use Rattle.model.specs.Protocol.{serve}
 use Rattle.model.proofs.ValidSheet.{valid-fits}
-use Rattle.bus.specs.Queue.{Window}
-use Rattle.bus.proofs.Windows.{window-written}
 use Rattle.bus.proofs.TurnSteps.{restOfTurn, turn-start, turn-take, turn-stop, turn-spent, begins-by}
 use Rattle.bus.proofs.turns.run_turn.Statement.{statement}
 use Rattle.bus.proofs.turns.run_turn.Tie as tie
 
 abbrev Inv-loop : tie.InvT-loop
-Inv-loop sheet log from to room₀ node tick budget message count begin₀ j₀ room begin j =
+Inv-loop sheet log to room₀ node tick budget message count begin₀ j₀ room begin j =
     (begin ≡ tick + j * messageTicks sheet)
     × (length room ≡ length room₀)
-    × Window log tick room from to
     × (restOfTurn sheet log node tick (nodeBudget sheet node) j room ≡ serve sheet log node tick (nodeBudget sheet node) 0 room₀)
 
 abbrev μ-loop : tie.MeasureT-loop
-μ-loop sheet log from to room₀ node tick budget message count begin₀ j₀ room begin j = budget - j
+μ-loop sheet log to room₀ node tick budget message count begin₀ j₀ room begin j = budget - j
 
 budget-of-requires : tie.Need-budget-of-requires Inv-loop μ-loop
 budget-of-requires c κs = search needs
@@ -38,15 +35,13 @@ loop-holds c =
     let bus = a .bus in (
       omega arith,
       refl,
-      c .before .before .before .before .before .pre .1,
       turn-start (a .sheet .now) (a .log .now) (bus .node) (bus .tick) (nodeBudget (a .sheet .now) (bus .node)) (a .room .now),
     )
 
 first-waiting-requires : tie.Need-first-waiting-requires Inv-loop μ-loop
 first-waiting-requires c κs =
-    let pre = c .before .before .before .before .before .before .before .before .pre .0 in
-    let inv = c .before .before .loop .inv in
-    ((pre .0, omega (arith, pre .2, inv .1)), inv .2)
+    let pre = c .before .before .before .before .before .before .before .before .pre in
+    ((pre .0 .0, omega (arith, pre .0 .2, c .before .before .loop .inv .1)), pre .1)
 
 same-length : tie.Need-same-length Inv-loop μ-loop
 same-length c = c .before .before .before .before .loop .inv .1
@@ -56,7 +51,7 @@ returns c =
     let a = c .before .before .before .before .before .before .before .before .before .before .args in
     let bus = a .bus in
     let nobody = rw (c .before .first-waiting .ensures) at (c .if1 .taken) in
-    let whole = turn-stop (a .sheet .now) (a .log .now) (bus .node) (bus .tick) (nodeBudget (a .sheet .now) (bus .node)) _ _ nobody (c .before .before .before .before .loop .inv .3) in
+    let whole = turn-stop (a .sheet .now) (a .log .now) (bus .node) (bus .tick) (nodeBudget (a .sheet .now) (bus .node)) _ _ nobody (c .before .before .before .before .loop .inv .2) in
     (ap (λ v. v .taken) whole, ap (λ v. v .begins) whole)
 
 mul-room : tie.Need-mul-room Inv-loop μ-loop
@@ -88,12 +83,10 @@ loop-again c =
     let bus = a .bus in
     let inv = c .before .before .before .before .loop .inv in
     let first = c .before .first-waiting .ensures in
-    let waits = rw first at (c .if1 .left) in
     let left = rw (c .before .before .before .before .before .before .budget-of .ensures) at (c .before .before .before .loop-test .taken) in (
       rw (add-mul, one-mul) (omega (arith, inv .0, c .before .before .before .before .before .word-at .ensures)),
       simp length-set (inv .1),
-      window-written _ _ (slice-write-room c) (λ e. omega (arith, early c)) (inv .2),
-      rw (first, inv .0) (turn-take (a .sheet .now) (a .log .now) (bus .node) (bus .tick) (nodeBudget (a .sheet .now) (bus .node)) _ _ left waits (inv .3)),
+      turn-take (a .sheet .now) (a .log .now) (bus .node) (bus .tick) (nodeBudget (a .sheet .now) (bus .node)) _ _ left first (c .if1 .left) (inv .0) (inv .2),
     )
 
 same-length-2 : tie.Need-same-length-2 Inv-loop μ-loop
@@ -104,7 +97,7 @@ returns-2 c =
     let a = c .before .before .before .before .before .before .before .args in
     let bus = a .bus in
     let spent = rw (c .before .before .before .budget-of .ensures) at (c .loop-test .left) in
-    let whole = turn-spent (a .sheet .now) (a .log .now) (bus .node) (bus .tick) (nodeBudget (a .sheet .now) (bus .node)) _ _ spent (c .before .loop .inv .3) in
+    let whole = turn-spent (a .sheet .now) (a .log .now) (bus .node) (bus .tick) (nodeBudget (a .sheet .now) (bus .node)) _ _ spent (c .before .loop .inv .2) in
     (ap (λ v. v .taken) whole, ap (λ v. v .begins) whole)
 
 pub run-turn-spec : {M : Type 1} → statement M

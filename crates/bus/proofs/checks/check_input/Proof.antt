@@ -1,0 +1,48 @@
+-- `bus::checks::check_input` meets its contract: each part's answer is the chain's where it refuses, and hands on to the next where
+-- it does not. Assumes nothing.
+use borrow.Author.Needs.{needs}
+use mathlib.Core.Path.{refl}
+use Rattle.model.proofs.Refusals.{refused, passed}
+use Rattle.bus.proofs.checks.check_input.Statement.{statement}
+use Rattle.bus.proofs.checks.check_input.Tie as tie
+
+check-sheet-requires : tie.Need-check-sheet-requires
+check-sheet-requires c κs = search needs
+
+returns : tie.Need-returns
+returns c = refused _ (c .before .before .check-sheet .ensures) (c .if1 .taken)
+
+check-log-requires : tie.Need-check-log-requires
+check-log-requires c κs = search needs
+
+returns-2 : tie.Need-returns-2
+returns-2 c =
+    passed (c .before .before .before .before .before .check-sheet .ensures) (c .before .before .before .if1 .left)
+    (refused _ (c .before .before .check-log .ensures) (c .if2 .taken))
+
+returns-3 : tie.Need-returns-3
+returns-3 c =
+    passed (c .before .before .before .before .before .before .before .check-sheet .ensures) (c .before .before .before .before .before .if1 .left)
+    (passed (c .before .before .before .before .check-log .ensures) (c .before .before .if2 .left)
+    (refused _ refl (c .if3 .taken)))
+
+check-room-requires : tie.Need-check-room-requires
+check-room-requires c κs = search needs
+
+returns-4 : tie.Need-returns-4
+returns-4 c =
+    passed (c .before .before .before .before .before .before .before .before .check-sheet .ensures) (c .before .before .before .before .before .before .if1 .left)
+    (passed (c .before .before .before .before .before .check-log .ensures) (c .before .before .before .if2 .left)
+    (passed refl (c .before .if3 .left) (c .check-room .ensures)))
+
+pub check-input-spec : {M : Type 1} → statement M
+check-input-spec =
+    tie.close
+    (tie.spec
+    check-sheet-requires
+    returns
+    check-log-requires
+    returns-2
+    returns-3
+    check-room-requires
+    returns-4)
