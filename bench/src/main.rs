@@ -1,8 +1,7 @@
 //! Times the proved library beside the second program, both built for
 //! release, in one run: `bench admit`, `bench search`, `bench hardest`,
-//! `bench replay`. Each figure is the
-//! median of nine runs over the same inputs; rooms are not cleared between
-//! runs.
+//! `bench replay`. Each figure is the median of nine runs over the same inputs
+//! (`bench hardest` runs once); rooms are not cleared between runs.
 
 use std::hint::black_box;
 use std::process::ExitCode;
@@ -176,7 +175,7 @@ fn replay_pair(what: &str, sheet: &[u32], log: &[u32], horizon: u32) {
         ));
     });
     println!(
-        "{what}: proved {:.3} ms, second program {:.1} ms ({:.2} ns a turn, {} turns), second / proved {:.2}",
+        "{what}: proved {:.3} ms, second program {:.3} ms ({:.2} ns a turn, {} turns), second / proved {:.2}",
         proved / 1e6,
         second / 1e6,
         second / f64::from(answer.second.max(1)),

@@ -1,10 +1,13 @@
 -- The scan of the log for the first in a node's queue: what it keeps of the first so far, and that each step keeps it.
 -- Assumes nothing.
-use Prim.Native.Nat.{ℕ, suc, _+_, _≤_, _<_}
+use Prim.Native.Nat.{ℕ, suc, _+_, _≤_, _<_, zero-le}
 use mathlib.Core.Path.{_≡_, refl, sym, _∙_}
+use mathlib.Core.Logic.{⊎-elim, by-cases}
 use mathlib.Core.Bool.{true, false}
 use mathlib.Core.List.{List}
+use native.Mathlib.Nat.{eq-or-lt-of-le}
 use native.Mathlib.Numerals.{add-one}
+use native.Mathlib.Decide.{decLt}
 use native.Mathlib.Omega.{arith}
 use Rattle.model.specs.Limits.{notBegun}
 use Rattle.model.specs.Sheet.{word}
@@ -12,9 +15,21 @@ use Rattle.model.specs.Protocol.{releases, releaseTick, releaseStream, queuedBe
 use Rattle.model.proofs.ValidSheet.{valid-fits}
 use Rattle.model.proofs.First.{first-start, first-passed, first-beyond, first-alone, first-ahead, first-behind}
 use Rattle.model.proofs.Queue.{ofNode-reading}
-use Rattle.model.proofs.Waiting.{waiting-holds, waiting-later}
-use Rattle.bus.specs.Queue.{ValidNode, Arrived, rankKey}
+use Rattle.model.proofs.Waiting.{waiting-holds, waiting-begun, waiting-later}
+use Rattle.bus.specs.Queue.{ValidNode, Arrived, BegunFrom, BegunBefore, rankKey}
 use Rattle.bus.proofs.RankKey.{Own, key-most, key-ahead, key-behind}
+
+-- One more release has begun,
+pub begun-more : (room : List ℕ) (from to : ℕ)
+    → BegunFrom room from to
+    → (word room to ≡ notBegun → ⊥)
+    → BegunFrom room from (to + 1)
+begun-more room from to begun here i low high =
+    let last : i ≤ to = omega arith in ⊎-elim (λ same. rw same here) (λ less. begun i low less) (eq-or-lt-of-le last)
+
+-- or a stretch of them.
+pub begun-on : (room : List ℕ) (from to : ℕ) → BegunBefore room from → BegunFrom room from to → BegunBefore room to
+begun-on room from to before on i high = by-cases (decLt i from) (before i) (λ late. on i (omega arith) high)
 
 -- The key of nobody: no stream has one as large.
 abbrev pub noKey : ℕ
@@ -31,11 +46,13 @@ pub record Scanned (s log : List ℕ) (k tick : ℕ) (room : List ℕ) (i first 
   pub kept : Kept s log k i first key
 
 module _ {s log : List ℕ} {k tick : ℕ} {room : List ℕ} where
-  -- Before the first release there is nobody.
-  pub scan-start : Scanned s log k tick room 0 (releases log) noKey
-  scan-start =
+  -- Among those that have begun there is nobody.
+  pub scan-start : {from : ℕ} → BegunBefore room from → Scanned s log k tick room from (releases log) noKey
+  scan-start {from} begun =
+      let test = waiting s log k tick room in
+      let none : (i : ℕ) → i < from → test i ≡ false = λ i h. waiting-begun s log k tick room i (begun i h) in
       record {
-        found = sym (first-start (waiting s log k tick room) (queuedBefore s log k) (releases log));
+        found = sym (first-beyond test _ (releases log) 0 from zero-le (λ i _ h. none i h) ∙ first-start test _ (releases log));
         kept = nobody refl refl;
       }
 

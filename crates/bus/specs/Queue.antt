@@ -27,6 +27,10 @@ pub record Arrived (log : List ℕ) (tick to : ℕ) : Type 0 where
   pub released : ReleasedBefore log tick to
   pub later : (i : ℕ) → to ≤ i → i < releases log → tick < releaseTick log i
 
+-- Those from `from` to before `to` have begun.
+abbrev pub BegunFrom : List ℕ → ℕ → ℕ → Type 0
+BegunFrom room from to = (i : ℕ) → from ≤ i → i < to → word room i ≡ notBegun → ⊥
+
 -- Those before `from` have begun.
 abbrev pub BegunBefore : List ℕ → ℕ → Type 0
 BegunBefore room from = (i : ℕ) → i < from → word room i ≡ notBegun → ⊥

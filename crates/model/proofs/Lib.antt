@@ -27,6 +27,7 @@ pub mod Run
 pub mod Idle
 pub mod AnswersFit
 pub mod ReplayFits
+pub mod StepIsTurn
 pub mod Accepted
 pub mod Counting
 pub mod Line

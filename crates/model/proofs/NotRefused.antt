@@ -14,7 +14,7 @@ use Rattle.model.specs.Sheet.{nodes, sheetRefusal, Valid}
 use Rattle.model.specs.Protocol.{releases, replayed}
 use Rattle.model.specs.Answers.{roomRefusal, logRefusal, horizonRefusal, recordRefusal, replayAnswer, stepRefusal}
 use Rattle.model.proofs.Refusals.{orElse-on, orElse-both, refuseIf-not, refuseIf-none}
-use Rattle.model.proofs.Tests.{or-neither, within}
+use Rattle.model.proofs.Tests.{or-neither, or-second, within, inside}
 
 -- A buffer that is not refused has the words that are needed.
 room-enough : (needed room : ℕ) → roomRefusal needed room .number ≡ 0 → needed ≤ room
@@ -87,3 +87,16 @@ step-accepted {s} {log} {bus} {room} e =
       nodeTo = range .1;
       roomFor = room-enough (releases log) room (bad .1);
     }
+
+-- And a step that is handed that is not refused.
+pub step-unrefused : {s log : List ℕ} {bus : Bus} {room : ℕ} → StepAccepted s log bus room → stepRefusal s log bus room .number ≡ 0
+unfolding stepRefusal recordRefusal roomRefusal
+step-unrefused {s} {log} {bus} {room} ok =
+    let number : Answer → ℕ = λ a. a .number in
+    let times = or-second (le-ltb maxTime (bus .tick) (ok .tickTo)) (le-ltb maxTime (bus .turns) (ok .turnsTo)) in
+    let bad = refuseIf-not (refuse 16 0 0) (or-second times (inside 1 (nodes s) (bus .node) (ok .nodeFrom) (ok .nodeTo))) in
+    ap number
+    (orElse-on (sheetRefusal s) _ (ok .valid)
+    ∙ orElse-on (logRefusal s log) _ (ok .logged)
+    ∙ orElse-on (recordRefusal s bus) _ (ap number bad)
+    ∙ refuseIf-not (refuse 6 0 0) (le-ltb room (releases log) (ok .roomFor)))

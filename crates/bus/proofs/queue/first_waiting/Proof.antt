@@ -1,6 +1,6 @@
 -- `bus::queue::first_waiting` meets its contract: at each release the scan has found the first in the queue among those before.
 -- Assumes nothing.
-use Prim.Native.Nat.{_-_, _≤_, zero-le}
+use Prim.Native.Nat.{_-_, _≤_}
 use native.Mathlib.Omega.{arith}
 use mathlib.Core.Path.{_≡_, ap, _∙_}
 use borrow.Author.Needs.{needs}
@@ -23,38 +23,41 @@ abbrev μ-loop : tie.MeasureT-loop
 streams-of-requires : tie.Need-streams-of-requires Inv-loop μ-loop
 streams-of-requires c κs = c .before .before .before .pre .0 .0
 
+begun-blocks-requires : tie.Need-begun-blocks-requires Inv-loop μ-loop
+begun-blocks-requires c κs = omega (arith, c .before .before .before .before .pre .0 .1, c .before .before .before .before .pre .1 .inLog)
+
 loop-holds : tie.Need-loop-holds Inv-loop μ-loop
-loop-holds c = (zero-le, scan-start)
+loop-holds c = let begun = c .begun-blocks .ensures in (begun .0, scan-start (begun .1))
 
 add-i : tie.Need-add-i Inv-loop μ-loop
-add-i c = omega (arith, c .before .before .before .before .before .before .pre .1 .inLog)
+add-i c = omega (arith, c .before .before .before .before .before .before .before .pre .1 .inLog)
 
 mul-if1 : tie.Need-mul-if1 Inv-loop μ-loop
-mul-if1 c = omega (arith, c .before .before .before .before .before .before .pre .1 .inLog)
+mul-if1 c = omega (arith, c .before .before .before .before .before .before .before .pre .1 .inLog)
 
 shared-slice-read-if1 : tie.Need-shared-slice-read-if1 Inv-loop μ-loop
-shared-slice-read-if1 c = omega (arith, c .before .before .before .before .before .before .before .pre .0 .1, c .before .before .before .before .before .before .before .pre .1 .inLog)
+shared-slice-read-if1 c = omega (arith, c .before .before .before .before .before .before .before .before .pre .0 .1, c .before .before .before .before .before .before .before .before .pre .1 .inLog)
 
 loop-less : tie.Need-loop-less Inv-loop μ-loop
 loop-less c = omega arith
 
 loop-again : tie.Need-loop-again Inv-loop μ-loop
 loop-again c =
-    let a = c .before .before .before .before .before .before .before .before .args in
+    let a = c .before .before .before .before .before .before .before .before .before .args in
     let begun = waiting-begun (a .sheet .now) (a .log .now) (a .node) (a .tick) (a .room .now) _ (c .if1 .taken) in
     (omega arith, scan-on begun (c .before .before .before .loop .inv .1))
 
 mul-wide : tie.Need-mul-wide Inv-loop μ-loop
-mul-wide c = omega (arith, c .before .before .before .before .before .before .before .before .pre .1 .inLog)
+mul-wide c = omega (arith, c .before .before .before .before .before .before .before .before .before .pre .1 .inLog)
 
 add-wide : tie.Need-add-wide Inv-loop μ-loop
-add-wide c = omega (arith, c .before .before .before .before .before .before .before .before .pre .1 .inLog)
+add-wide c = omega (arith, c .before .before .before .before .before .before .before .before .before .pre .1 .inLog)
 
 mul-wide-2 : tie.Need-mul-wide-2 Inv-loop μ-loop
-mul-wide-2 c = omega (arith, c .before .before .before .before .before .before .before .before .pre .1 .inLog)
+mul-wide-2 c = omega (arith, c .before .before .before .before .before .before .before .before .before .pre .1 .inLog)
 
 shared-slice-read-wide : tie.Need-shared-slice-read-wide Inv-loop μ-loop
-shared-slice-read-wide c = omega (arith, c .before .before .before .before .before .before .before .before .before .pre .1 .inLog)
+shared-slice-read-wide c = omega (arith, c .before .before .before .before .before .before .before .before .before .before .pre .1 .inLog)
 
 wide-requires : tie.Need-wide-requires Inv-loop μ-loop
 wide-requires c κs = search needs
@@ -64,8 +67,8 @@ loop-less-2 c = omega arith
 
 loop-again-2 : tie.Need-loop-again-2 Inv-loop μ-loop
 loop-again-2 c =
-    let a = c .before .before .before .before .before .before .before .before .before .before .before .args in
-    let before = ap (λ r. r .before) (c .before .before .before .before .before .before .before .streams-of .ensures) in
+    let a = c .before .before .before .before .before .before .before .before .before .before .before .before .args in
+    let before = ap (λ r. r .before) (c .before .before .before .before .before .before .before .before .streams-of .ensures) in
     let below = waiting-below (a .sheet .now) (a .log .now) (a .node) (a .tick) (a .room .now) (c .before .before .before .before .before .before .loop .i) (omega (arith, before, c .if2 .taken, c .before .wide .ensures .0)) in
     (omega arith, scan-on below (c .before .before .before .before .before .before .loop .inv .1))
 
@@ -74,32 +77,32 @@ loop-less-3 c = omega arith
 
 loop-again-3 : tie.Need-loop-again-3 Inv-loop μ-loop
 loop-again-3 c =
-    let a = c .before .before .before .before .before .before .before .before .before .before .before .before .args in
-    let last = ap (λ r. r .last) (c .before .before .before .before .before .before .before .before .streams-of .ensures) in
+    let a = c .before .before .before .before .before .before .before .before .before .before .before .before .before .args in
+    let last = ap (λ r. r .last) (c .before .before .before .before .before .before .before .before .before .streams-of .ensures) in
     let above = waiting-above (a .sheet .now) (a .log .now) (a .node) (a .tick) (a .room .now) (c .before .before .before .before .before .before .before .loop .i) (omega (arith, last, c .if3 .taken, c .before .before .wide .ensures .0)) in
     (omega arith, scan-on above (c .before .before .before .before .before .before .before .loop .inv .1))
 
 -- past the two tests the stream is one of the node's
-own : (c : tie.Else3 Inv-loop μ-loop) → Own (c .before .before .before .before .before .before .before .before .before .before .before .before .args .sheet .now) (c .before .before .before .before .before .before .before .before .before .before .before .before .args .node) (releaseStream (c .before .before .before .before .before .before .before .before .before .before .before .before .args .log .now) (c .before .before .before .before .before .before .before .loop .i))
+own : (c : tie.Else3 Inv-loop μ-loop) → Own (c .before .before .before .before .before .before .before .before .before .before .before .before .before .args .sheet .now) (c .before .before .before .before .before .before .before .before .before .before .before .before .before .args .node) (releaseStream (c .before .before .before .before .before .before .before .before .before .before .before .before .before .args .log .now) (c .before .before .before .before .before .before .before .loop .i))
 own c =
-    let streams = c .before .before .before .before .before .before .before .before .streams-of .ensures in
+    let streams = c .before .before .before .before .before .before .before .before .before .streams-of .ensures in
     let stream = c .before .before .wide .ensures .0 in
     (omega (arith, ap (λ r. r .before) streams, stream, c .before .if2 .left), omega (arith, ap (λ r. r .last) streams, stream, c .if3 .left))
 
 rank-key-requires : tie.Need-rank-key-requires Inv-loop μ-loop
 rank-key-requires c κs =
-    let a = c .before .before .before .before .before .before .before .before .before .before .before .before .args in
-    let node = c .before .before .before .before .before .before .before .before .before .before .before .before .pre .0 .0 in
-    let stream = c .before .before .wide .ensures in
-    let there = key-there (a .sheet .now) (valid-fits (a .sheet .now) (node .valid)) (a .node) (node .from) (node .upTo) _ (own c) in
-    (c .before .if2 .left, stream .1, rw (c .before .before .before .before .before .before .before .before .streams-of .ensures, stream .0) there)
-
--- the key that was read is the stream's
-key : (c : tie.After-rank-key Inv-loop μ-loop) → c .rank-key .result ≡ rankKey (c .before .before .before .before .before .before .before .before .before .before .before .before .before .args .sheet .now) (c .before .before .before .before .before .before .before .before .before .before .before .before .before .args .node) (releaseStream (c .before .before .before .before .before .before .before .before .before .before .before .before .before .args .log .now) (c .before .before .before .before .before .before .before .before .loop .i))
-key c =
     let a = c .before .before .before .before .before .before .before .before .before .before .before .before .before .args in
     let node = c .before .before .before .before .before .before .before .before .before .before .before .before .before .pre .0 .0 in
-    (rw (c .before .before .before .before .before .before .before .before .before .streams-of .ensures, c .before .before .before .wide .ensures .0) at (c .rank-key .ensures))
+    let stream = c .before .before .wide .ensures in
+    let there = key-there (a .sheet .now) (valid-fits (a .sheet .now) (node .valid)) (a .node) (node .from) (node .upTo) _ (own c) in
+    (c .before .if2 .left, stream .1, rw (c .before .before .before .before .before .before .before .before .before .streams-of .ensures, stream .0) there)
+
+-- the key that was read is the stream's
+key : (c : tie.After-rank-key Inv-loop μ-loop) → c .rank-key .result ≡ rankKey (c .before .before .before .before .before .before .before .before .before .before .before .before .before .before .args .sheet .now) (c .before .before .before .before .before .before .before .before .before .before .before .before .before .before .args .node) (releaseStream (c .before .before .before .before .before .before .before .before .before .before .before .before .before .before .args .log .now) (c .before .before .before .before .before .before .before .before .loop .i))
+key c =
+    let a = c .before .before .before .before .before .before .before .before .before .before .before .before .before .before .args in
+    let node = c .before .before .before .before .before .before .before .before .before .before .before .before .before .before .pre .0 .0 in
+    (rw (c .before .before .before .before .before .before .before .before .before .before .streams-of .ensures, c .before .before .before .wide .ensures .0) at (c .rank-key .ensures))
     ∙ key-read (a .sheet .now) (valid-fits (a .sheet .now) (node .valid)) (a .node) (node .from) (node .upTo) (releaseStream (a .log .now) (c .before .before .before .before .before .before .before .before .loop .i))
 
 loop-less-4 : tie.Need-loop-less-4 Inv-loop μ-loop
@@ -107,7 +110,7 @@ loop-less-4 c = omega arith
 
 loop-again-4 : tie.Need-loop-again-4 Inv-loop μ-loop
 loop-again-4 c =
-    let pre = c .before .before .before .before .before .before .before .before .before .before .before .before .before .before .pre in
+    let pre = c .before .before .before .before .before .before .before .before .before .before .before .before .before .before .before .pre in
     let inv = c .before .before .before .before .before .before .before .before .before .loop .inv in
     (omega arith, scan-behind (pre .0 .0) _ (own (c .before .before)) (omega (arith, key (c .before), c .if4 .taken)) (omega (arith, pre .1 .inLog, c .before .before .before .before .before .before .before .before .loop-test .taken)) (inv .1))
 
@@ -116,14 +119,14 @@ loop-less-5 c = omega arith
 
 loop-again-5 : tie.Need-loop-again-5 Inv-loop μ-loop
 loop-again-5 c =
-    let pre = c .before .before .before .before .before .before .before .before .before .before .before .before .before .before .pre in
+    let pre = c .before .before .before .before .before .before .before .before .before .before .before .before .before .before .before .pre in
     let inv = c .before .before .before .before .before .before .before .before .before .loop .inv in
     let i = c .before .before .before .before .before .before .before .before .before .loop .i in
     (omega arith, rw (key (c .before)) (scan-ahead (pre .0 .0) i (own (c .before .before)) (pre .1 .released i (c .before .before .before .before .before .before .before .before .loop-test .taken)) (c .before .before .before .before .before .before .if1 .left) (omega (arith, key (c .before), c .if4 .left)) (inv .1)))
 
 returns : tie.Need-returns Inv-loop μ-loop
 returns c =
-    let arrived = c .before .before .before .before .before .before .pre .1 in
+    let arrived = c .before .before .before .before .before .before .before .pre .1 in
     scan-end arrived (omega (arith, c .loop-test .left, c .before .loop .inv .0)) (c .before .loop .inv .1)
 
 pub first-waiting-spec : {M : Type 1} → statement M
@@ -133,6 +136,7 @@ first-waiting-spec =
     Inv-loop
     μ-loop
     streams-of-requires
+    begun-blocks-requires
     loop-holds
     add-i
     mul-if1
