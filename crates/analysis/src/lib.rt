@@ -1,10 +1,14 @@
 // The analysis: the listed wait of one stream, and the admission of a whole sheet.
 ghost use mathlib.Core.Path.{_≡_};
+ghost use mathlib.Core.Bool.{_||_};
 ghost use lib.ListN.{length};
-ghost use Rattle.model.specs.Answers.{unknownRefusal, verdictAnswer, oneStreamAnswer, admitAnswer, admitBuffer};
+ghost use Rattle.model.specs.Refusal.{outside};
+ghost use Rattle.model.specs.Sheet.{nodes, streamCount};
+ghost use Rattle.model.specs.Answers.{verdictAnswer, oneStreamAnswer, admitAnswer, admitBuffer};
 use cycle::cycle_of;
 use judge::judge_sheet;
 use layout::is_outside;
+use layout::refuse_if;
 use layout::stream_count;
 use layout::streams_up_to;
 use layout::word_at;
@@ -18,29 +22,14 @@ mod rank; // rank.rt: who is ranked above
 mod wait; // wait.rt: the search for J, and the verdict on one stream
 mod judge; // judge.rt: the verdicts on all streams
 
-// Refusal 8 of a stream asked.
-fn check_known(sheet: &[u32], k: u32, j: u32) -> Answer
-    ensures { λ r. ⌜ r ≡ unknownRefusal (now (sheet .entry)) k j ⌝ }
+// A node or a stream of it that the sheet has not.
+fn is_unknown(sheet: &[u32], k: u32, j: u32) -> bool
+    ensures { λ r. ⌜ r ≡ (outside 1 (nodes (now (sheet .entry))) k || outside 1 (streamCount (now (sheet .entry)) k) j) ⌝ }
 {
     if is_outside(1, word_at(sheet, 0), k) {
-        return Answer {
-            number: 8,
-            second: k,
-            third: j,
-        };
+        return true;
     }
-    if is_outside(1, stream_count(sheet, k), j) {
-        return Answer {
-            number: 8,
-            second: k,
-            third: j,
-        };
-    }
-    Answer {
-        number: 0,
-        second: 0,
-        third: 0,
-    }
+    is_outside(1, stream_count(sheet, k), j)
 }
 
 // The three numbers of a verdict.
@@ -69,7 +58,7 @@ pub fn one_stream(sheet: &[u32], node: u32, stream: u32) -> Answer
     if fault.number != 0 {
         return fault;
     }
-    let unknown = check_known(sheet, node, stream);
+    let unknown = refuse_if(is_unknown(sheet, node, stream), 8, node, stream);
     if unknown.number != 0 {
         return unknown;
     }
@@ -90,12 +79,9 @@ pub fn admit(sheet: &[u32], room: &mut [u32]) -> Answer
         return fault;
     }
     let total = streams_up_to(sheet, word_at(sheet, 0));
-    if room.len() < total {
-        return Answer {
-            number: 6,
-            second: 0,
-            third: 0,
-        };
+    let short = refuse_if(room.len() < total, 6, 0, 0);
+    if short.number != 0 {
+        return short;
     }
     judge_sheet(sheet, total, room)
 }

@@ -1,82 +1,29 @@
 // The refusals of the entries, in their order.
 ghost use mathlib.Core.Path.{_≡_};
-ghost use Rattle.model.specs.Refusal.{_orElse_};
-ghost use Rattle.model.specs.Sheet.{sheetRefusal};
+ghost use mathlib.Core.Bool.{_||_};
+ghost use lib.Dec.{ltb};
+ghost use Rattle.model.specs.Limits.{maxTime};
+ghost use Rattle.model.specs.Refusal.{_orElse_, outside};
+ghost use Rattle.model.specs.Sheet.{nodes, sheetRefusal};
 ghost use Rattle.model.specs.Protocol.{releases};
-ghost use Rattle.model.specs.Answers.{roomRefusal, logRefusal, recordRefusal, horizonRefusal, stepRefusal};
+ghost use Rattle.model.specs.Answers.{roomRefusal, logRefusal, stepRefusal};
 ghost use Rattle.bus.specs.Replay.{replayRefusal};
 use crate::log::check_log;
+use layout::refuse_if;
 use model::Answer;
 use model::Bus;
 
-// Refusal 6: the buffer has fewer words than are needed.
-fn check_room(needed: usize, room: usize) -> Answer
-    ensures { λ r. ⌜ r ≡ roomRefusal needed room ⌝ }
-{
-    if room < needed {
-        Answer {
-            number: 6,
-            second: 0,
-            third: 0,
-        }
-    } else {
-        Answer {
-            number: 0,
-            second: 0,
-            third: 0,
-        }
-    }
-}
-
-// Refusal 16: the record is out of range.
-fn check_record(sheet: &[u32], bus: Bus) -> Answer
-    ensures { λ r. ⌜ r ≡ recordRefusal (now (sheet .entry)) bus ⌝ }
+// A tick or a number of turns too large in a record, or a node that is not on the bus.
+fn record_is_wrong(sheet: &[u32], bus: Bus) -> bool
+    ensures { λ r. ⌜ r ≡ (ltb maxTime (bus .tick) || ltb maxTime (bus .turns) || outside 1 (nodes (now (sheet .entry))) (bus .node)) ⌝ }
 {
     if 1000000000 < bus.tick {
-        return Answer {
-            number: 16,
-            second: 0,
-            third: 0,
-        };
+        return true;
     }
     if 1000000000 < bus.turns {
-        return Answer {
-            number: 16,
-            second: 0,
-            third: 0,
-        };
+        return true;
     }
-    if layout::is_outside(1, layout::word_at(sheet, 0), bus.node) {
-        return Answer {
-            number: 16,
-            second: 0,
-            third: 0,
-        };
-    }
-    Answer {
-        number: 0,
-        second: 0,
-        third: 0,
-    }
-}
-
-// Refusal 10: the horizon is too large.
-fn check_horizon(horizon: u32) -> Answer
-    ensures { λ r. ⌜ r ≡ horizonRefusal horizon ⌝ }
-{
-    if 1000000000 < horizon {
-        Answer {
-            number: 10,
-            second: 0,
-            third: 0,
-        }
-    } else {
-        Answer {
-            number: 0,
-            second: 0,
-            third: 0,
-        }
-    }
+    layout::is_outside(1, layout::word_at(sheet, 0), bus.node)
 }
 
 // The refusals of an entry that is lent a log and a buffer of so many words: 1 to 5, 9, then its own, then 6.
@@ -94,19 +41,21 @@ fn check_input(sheet: &[u32], log: &[u32], own: Answer, room: usize) -> Answer
     if own.number != 0 {
         return own;
     }
-    check_room(log.len() / 2, room)
+    refuse_if(room < log.len() / 2, 6, 0, 0)
 }
 
 // The refusals of one step, with a buffer of so many words: 1 to 5, 9, 16, 6.
 pub fn check_step(sheet: &[u32], log: &[u32], bus: Bus, room: usize) -> Answer
     ensures { λ r. ⌜ r ≡ stepRefusal (now (sheet .entry)) (now (log .entry)) bus room ⌝ }
 {
-    check_input(sheet, log, check_record(sheet, bus), room)
+    let own = refuse_if(record_is_wrong(sheet, bus), 16, 0, 0);
+    check_input(sheet, log, own, room)
 }
 
 // The refusals of the replay, with a buffer of so many words: 1 to 5, 9, 10, 6.
 pub fn check_replay(sheet: &[u32], log: &[u32], horizon: u32, room: usize) -> Answer
     ensures { λ r. ⌜ r ≡ replayRefusal (now (sheet .entry)) (now (log .entry)) horizon room ⌝ }
 {
-    check_input(sheet, log, check_horizon(horizon), room)
+    let own = refuse_if(1000000000 < horizon, 10, 0, 0);
+    check_input(sheet, log, own, room)
 }

@@ -8,6 +8,7 @@ ghost use Rattle.model.specs.Refusal.{outside, firstOf};
 ghost use Rattle.model.specs.Sheet.{totalStreams};
 ghost use Rattle.model.specs.Protocol.{releases, releaseTick, releaseStream};
 ghost use Rattle.model.specs.Answers.{tickBefore, releaseRefusal, logRefusal};
+use layout::refuse_if;
 use model::Answer;
 
 // A tick too large, a falling tick or a stream unknown in release i, counted from 0, where `before` is the tick before it.
@@ -35,19 +36,8 @@ fn check_release(sheet: &[u32], log: &[u32], i: usize, before: u32, streams: usi
     requires { ⌜ (before ≡ tickBefore (now log) (i + 1)) × (streams ≡ totalStreams (now sheet)) ⌝ }
     ensures { λ r. ⌜ r ≡ releaseRefusal (now (sheet .entry)) (now (log .entry)) (i + 1) ⌝ }
 {
-    if release_is_wrong(log, i, before, streams) {
-        Answer {
-            number: 9,
-            second: 0,
-            third: (i + 1) as u32,
-        }
-    } else {
-        Answer {
-            number: 0,
-            second: 0,
-            third: 0,
-        }
-    }
+    let wrong = release_is_wrong(log, i, before, streams);
+    refuse_if(wrong, 9, 0, (i + 1) as u32)
 }
 
 // Refusal 9 of the first release that has a fault.
@@ -78,19 +68,13 @@ fn check_releases(sheet: &[u32], log: &[u32]) -> Answer
 pub fn check_log(sheet: &[u32], log: &[u32]) -> Answer
     ensures { λ r. ⌜ r ≡ logRefusal (now (sheet .entry)) (now (log .entry)) ⌝ }
 {
-    if log.len() % 2 != 0 {
-        return Answer {
-            number: 9,
-            second: 0,
-            third: 0,
-        };
+    let odd = refuse_if(log.len() % 2 != 0, 9, 0, 0);
+    if odd.number != 0 {
+        return odd;
     }
-    if 4096 < log.len() / 2 {
-        return Answer {
-            number: 9,
-            second: 0,
-            third: 0,
-        };
+    let many = refuse_if(4096 < log.len() / 2, 9, 0, 0);
+    if many.number != 0 {
+        return many;
     }
     check_releases(sheet, log)
 }

@@ -1,9 +1,10 @@
-// Where the words of a sheet stand: accessors over any words, which read 0 past the end, as the definitions do. None asks
-// anything of its caller.
+// Where the words of a sheet stand: accessors over any words, which read 0 past the end, as the definitions do; and a check's two
+// parts, a range and a refusal. None asks anything of its caller.
 ghost use mathlib.Core.Path.{_≡_};
 ghost use Prim.Native.Nat.{_<_, _^_};
-ghost use Rattle.model.specs.Refusal.{outside};
+ghost use Rattle.model.specs.Refusal.{refuse, refuseIf, outside};
 ghost use Rattle.model.specs.Sheet.{word, rowAt, place, streamCount, budget, streamsUpTo, streamAt, period, deadline, contentsWords};
+use model::Answer;
 
 // A word as an index.
 pub fn wide(x: u32) -> usize
@@ -94,4 +95,23 @@ pub fn is_outside(least: u32, most: u32, x: u32) -> bool
     ensures { λ r. ⌜ r ≡ outside least most x ⌝ }
 {
     if x < least { true } else { most < x }
+}
+
+// The refusal where the test holds, and no reason to refuse otherwise.
+pub fn refuse_if(test: bool, number: u32, second: u32, third: u32) -> Answer
+    ensures { λ r. ⌜ r ≡ refuseIf test (refuse number second third) ⌝ }
+{
+    if test {
+        Answer {
+            number,
+            second,
+            third,
+        }
+    } else {
+        Answer {
+            number: 0,
+            second: 0,
+            third: 0,
+        }
+    }
 }

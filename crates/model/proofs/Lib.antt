@@ -13,7 +13,7 @@ pub mod Interference
 pub mod Wait
 pub mod Search
 pub mod Searching
-pub mod Waits
+pub mod ListedWaits
 pub mod Queue
 pub mod First
 pub mod Waiting

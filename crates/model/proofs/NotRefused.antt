@@ -17,7 +17,7 @@ use Rattle.model.proofs.Refusals.{orElse-on, orElse-both, refuseIf-not,
 use Rattle.model.proofs.Tests.{or-neither, or-second, within, inside}
 
 -- A buffer that is not refused has the words that are needed.
-room-enough : (needed room : ℕ) → roomRefusal needed room .number ≡ 0 → needed ≤ room
+pub room-enough : (needed room : ℕ) → roomRefusal needed room .number ≡ 0 → needed ≤ room
 unfolding roomRefusal
 room-enough needed room e = ltb-false room needed (refuseIf-none (ltb room needed) (refuse 6 0 0) (suc-ne-zero 5) e)
 

@@ -2,7 +2,7 @@
 -- place on, so that a loop keeps "the rest from here equals the whole". Assumes nothing.
 use Prim.Native.Nat.{ℕ, zero, suc, _+_, _-_, _≤_, _<_}
 use native.Mathlib.Numerals.{add-one}
-use native.Mathlib.Nat.{suc-ne-zero, sub-zero, sub-eq-zero-of-le, eq-or-lt-of-le, lt-irrefl}
+use native.Mathlib.Nat.{sub-zero, sub-eq-zero-of-le, eq-or-lt-of-le, lt-irrefl}
 use native.Mathlib.Omega.{arith}
 use mathlib.Core.Path.{_≡_, refl, sym, _∙_}
 use mathlib.Core.Logic.{_⊎_, inl, inr}
@@ -10,7 +10,7 @@ use mathlib.Core.Bool.{Bool, true, false}
 use borrow.Author.Tests.{eq-eqb, ne-eqb, eqb-true, eqb-false}
 use lib.Dec.{eqb}
 use Rattle.model.specs.declared.Answer.{Answer}
-use Rattle.model.specs.Refusal.{refuse, accepted, refuseIf, _orElse_, firstOf}
+use Rattle.model.specs.Refusal.{accepted, refuseIf, _orElse_, firstOf}
 
 -- A check that finds nothing leaves the answer to the next.
 pub orElse-on : (a b : Answer) → a .number ≡ 0 → a orElse b ≡ b
@@ -59,16 +59,6 @@ refuseIf-not a e = rw e refl
 pub refuseIf-so : {test : Bool} (a : Answer) → test ≡ true → refuseIf test a ≡ a
 unfolding refuseIf
 refuseIf-so a e = rw e refl
-
--- In a chain: a test that holds is its answer,
-pub test-refuses : {test : Bool} (number a b : ℕ) (y : Answer)
-    → test ≡ true
-    → refuse (suc number) a b ≡ refuseIf test (refuse (suc number) a b) orElse y
-test-refuses number a b y e = refused y (sym (refuseIf-so (refuse (suc number) a b) e)) (suc-ne-zero number)
-
--- and one that fails leaves it to the rest.
-pub test-passes : {test : Bool} (a : Answer) {r y : Answer} → test ≡ false → r ≡ y → r ≡ refuseIf test a orElse y
-test-passes a e same = passed (sym (refuseIf-not a e)) refl same
 
 -- Where a check finds nothing, it does not hold.
 pub refuseIf-none : (test : Bool) (a : Answer) → (a .number ≡ 0 → ⊥) → refuseIf test a .number ≡ 0 → test ≡ false

@@ -1,9 +1,11 @@
 // The sheet reader: refusals 1 to 5 with their places, for any words.
 ghost use mathlib.Core.Path.{_≡_};
 ghost use Prim.Native.Nat.{_≤_};
-ghost use Rattle.model.specs.Limits.{maxNodes};
+ghost use mathlib.Core.Bool.{_||_};
+ghost use Rattle.model.specs.Limits.{maxNodes, maxSlotTicks};
 ghost use Rattle.model.specs.Refusal.{outside, firstOf};
-ghost use Rattle.model.specs.Sheet.{word, nodes, bodyPlace, rowWrong, rowRefusal, streamWrong, streamRefusal, bodyRefusal, headerRefusal, sheetRefusal};
+ghost use Rattle.model.specs.Sheet.{word, nodes, messageTicks, slotTicks, bodyPlace, rowWrong, rowRefusal, streamWrong, streamRefusal, bodyRefusal, headerRefusal, sheetRefusal};
+use layout::refuse_if;
 use model::Answer;
 
 // A word of the sheet out of range.
@@ -13,50 +15,33 @@ fn word_outside(sheet: &[u32], i: usize, least: u32, most: u32) -> bool
     layout::is_outside(least, most, layout::word_at(sheet, i))
 }
 
+// The ticks of a message or of a protocol slot out of range.
+fn ticks_outside(sheet: &[u32]) -> bool
+    ensures { λ r. ⌜ r ≡ (outside 1 maxSlotTicks (messageTicks (now (sheet .entry))) || outside 1 maxSlotTicks (slotTicks (now (sheet .entry)))) ⌝ }
+{
+    if word_outside(sheet, 1, 1, 10000) {
+        return true;
+    }
+    word_outside(sheet, 2, 1, 10000)
+}
+
 // Refusals 1 to 3, and 4 for contents that are cut short.
 fn check_header(sheet: &[u32]) -> Answer
     ensures { λ r. ⌜ r ≡ headerRefusal (now (sheet .entry)) ⌝ }
 {
-    if sheet.len() < 3 {
-        return Answer {
-            number: 1,
-            second: 0,
-            third: 0,
-        };
+    let short = refuse_if(sheet.len() < 3, 1, 0, 0);
+    if short.number != 0 {
+        return short;
     }
-    if word_outside(sheet, 0, 1, 16) {
-        return Answer {
-            number: 2,
-            second: 0,
-            third: 0,
-        };
+    let nodes = refuse_if(word_outside(sheet, 0, 1, 16), 2, 0, 0);
+    if nodes.number != 0 {
+        return nodes;
     }
-    if word_outside(sheet, 1, 1, 10000) {
-        return Answer {
-            number: 3,
-            second: 0,
-            third: 0,
-        };
+    let ticks = refuse_if(ticks_outside(sheet), 3, 0, 0);
+    if ticks.number != 0 {
+        return ticks;
     }
-    if word_outside(sheet, 2, 1, 10000) {
-        return Answer {
-            number: 3,
-            second: 0,
-            third: 0,
-        };
-    }
-    if sheet.len() < layout::contents_words(sheet) {
-        return Answer {
-            number: 4,
-            second: 0,
-            third: 0,
-        };
-    }
-    Answer {
-        number: 0,
-        second: 0,
-        third: 0,
-    }
+    refuse_if(sheet.len() < layout::contents_words(sheet), 4, 0, 0)
 }
 
 // A wrong place, stream count or budget in node k's row, where the body must stand at `at`.
@@ -78,19 +63,7 @@ fn check_row(sheet: &[u32], k: u32, at: usize) -> Answer
     requires { ⌜ at ≡ bodyPlace (now sheet) k ⌝ }
     ensures { λ r. ⌜ r ≡ rowRefusal (now (sheet .entry)) k ⌝ }
 {
-    if row_is_wrong(sheet, k, at) {
-        Answer {
-            number: 4,
-            second: k,
-            third: 0,
-        }
-    } else {
-        Answer {
-            number: 0,
-            second: 0,
-            third: 0,
-        }
-    }
+    refuse_if(row_is_wrong(sheet, k, at), 4, k, 0)
 }
 
 // Refusal 4 of the rows of nodes 1 to n.
@@ -130,19 +103,7 @@ fn stream_is_wrong(sheet: &[u32], k: u32, j: u32) -> bool
 fn check_stream(sheet: &[u32], k: u32, j: u32) -> Answer
     ensures { λ r. ⌜ r ≡ streamRefusal (now (sheet .entry)) k j ⌝ }
 {
-    if stream_is_wrong(sheet, k, j) {
-        Answer {
-            number: 5,
-            second: k,
-            third: j,
-        }
-    } else {
-        Answer {
-            number: 0,
-            second: 0,
-            third: 0,
-        }
-    }
+    refuse_if(stream_is_wrong(sheet, k, j), 5, k, j)
 }
 
 // Refusal 5 of node k's streams.
@@ -197,12 +158,10 @@ pub fn check_sheet(sheet: &[u32]) -> Answer
     if rows.number != 0 {
         return rows;
     }
-    if sheet.len() != layout::contents_words(sheet) + 2 * layout::streams_up_to(sheet, n) {
-        return Answer {
-            number: 4,
-            second: 0,
-            third: 0,
-        };
+    let end = layout::contents_words(sheet) + 2 * layout::streams_up_to(sheet, n);
+    let length = refuse_if(sheet.len() != end, 4, 0, 0);
+    if length.number != 0 {
+        return length;
     }
     check_bodies(sheet, n)
 }

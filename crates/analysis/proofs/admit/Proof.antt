@@ -2,17 +2,15 @@
 -- the next where it does not.
 -- Assumes nothing.
 use Prim.Native.Nat.{ℕ}
-use mathlib.Core.Path.{_≡_, refl, sym, ap, _∙_}
+use mathlib.Core.Path.{_≡_, ap, _∙_}
 use mathlib.Core.List.{List}
-use native.Mathlib.Nat.{suc-ne-zero}
 use borrow.Author.Needs.{needs}
-use borrow.Author.Tests.{lt-ltb, le-ltb}
 use lib.ListN.{length}
 use Rattle.model.specs.declared.Answer.{Answer}
-use Rattle.model.specs.Refusal.{refuse}
 use Rattle.model.specs.Sheet.{totalStreams}
 use Rattle.model.specs.Answers.{roomRefusal, listedWaits, bufferAfter, admitAnswer, admitBuffer}
-use Rattle.model.proofs.Refusals.{refused, passed, refuseIf-so, refuseIf-not}
+use Rattle.model.proofs.Refusals.{refused, passed}
+use Rattle.model.proofs.NotRefused.{room-enough}
 use Rattle.model.proofs.Buffer.{buffer-kept}
 use Rattle.analysis.proofs.admit.Statement.{statement}
 use Rattle.analysis.proofs.admit.Tie as tie
@@ -42,33 +40,45 @@ streams-up-to-requires c κs = search needs
 total : (c : tie.After-streams-up-to) → c .streams-up-to .result ≡ totalStreams (c .before .before .before .before .before .before .before .args .sheet .now)
 total c = rw (c .before .word-at .ensures) at (c .streams-up-to .ensures)
 
+refuse-if-requires : tie.Need-refuse-if-requires
+refuse-if-requires c κs = search needs
+
+-- The check of the room is refusal 6.
+short : (c : tie.After-refuse-if)
+    → c .refuse-if .result ≡ roomRefusal (totalStreams (c .before .before .before .before .before .before .before .before .args .sheet .now)) (length (c .before .before .before .before .before .before .before .before .args .room .now))
+unfolding roomRefusal
+short c = rw (total (c .before)) at (c .refuse-if .ensures)
+
 returns-2 : tie.Need-returns-2
-unfolding admitAnswer roomRefusal
+unfolding admitAnswer
 returns-2 c =
-    let a = c .before .before .before .before .before .before .before .before .args in
-    let short = lt-ltb (length (a .room .now)) (totalStreams (a .sheet .now)) (rw (total (c .before)) at (c .if2 .taken)) in
+    let a = c .before .before .before .before .before .before .before .before .before .before .args in
     let answer =
-    passed (c .before .before .before .before .before .check-sheet .ensures) (c .before .before .before .if1 .left)
-    (refused _ (sym (refuseIf-so (refuse 6 0 0) short)) (suc-ne-zero 5))
+    passed (c .before .before .before .before .before .before .before .check-sheet .ensures) (c .before .before .before .before .before .if1 .left)
+    (refused _ (short (c .before .before)) (c .if2 .taken))
     in
-    (answer, buffer-kept _ (listedWaits (a .sheet .now)) (a .room .now) (suc-ne-zero 5) ∙ of-answer (a .sheet .now) (a .room .now) answer)
+    (answer, buffer-kept _ (listedWaits (a .sheet .now)) (a .room .now) (c .if2 .taken) ∙ of-answer (a .sheet .now) (a .room .now) answer)
 
 judge-sheet-requires : tie.Need-judge-sheet-requires
 judge-sheet-requires c κs =
-    (rw (c .before .before .before .before .before .before .check-sheet .ensures) at (c .before .before .before .before .if1 .left), total (c .before .before), c .before .if2 .left)
+    let a = c .before .before .before .before .before .before .before .before .before .before .before .args in
+    let streams = total (c .before .before .before .before) in (
+      rw (c .before .before .before .before .before .before .before .before .check-sheet .ensures) at (c .before .before .before .before .before .before .if1 .left),
+      streams,
+      rw streams (room-enough (totalStreams (a .sheet .now)) (length (a .room .now)) (rw (short (c .before .before .before)) at (c .before .if2 .left))),
+    )
 
 same-length : tie.Need-same-length
 same-length c = search needs
 
 returns-3 : tie.Need-returns-3
-unfolding admitAnswer roomRefusal
+unfolding admitAnswer
 returns-3 c =
-    let a = c .before .before .before .before .before .before .before .before .before .before .before .before .args in
+    let a = c .before .before .before .before .before .before .before .before .before .before .before .before .before .before .args in
     let judged = c .before .before .judge-sheet .ensures in
-    let fits = le-ltb (length (a .room .now)) (totalStreams (a .sheet .now)) (rw (total (c .before .before .before .before .before)) at (c .before .before .before .before .if2 .left)) in
     let answer =
-    passed (c .before .before .before .before .before .before .before .before .before .check-sheet .ensures) (c .before .before .before .before .before .before .before .if1 .left)
-    (passed (sym (refuseIf-not (refuse 6 0 0) fits)) refl (judged .0))
+    passed (c .before .before .before .before .before .before .before .before .before .before .before .check-sheet .ensures) (c .before .before .before .before .before .before .before .before .before .if1 .left)
+    (passed (short (c .before .before .before .before .before .before)) (c .before .before .before .before .if2 .left) (judged .0))
     in
     (answer, judged .1 ∙ of-answer (a .sheet .now) (a .room .now) answer)
 
@@ -80,6 +90,7 @@ admit-spec =
     returns
     word-at-requires
     streams-up-to-requires
+    refuse-if-requires
     returns-2
     judge-sheet-requires
     same-length

@@ -1,9 +1,9 @@
 -- `analysis::one_stream` meets its contract: each part's answer is the chain's where it refuses, and hands on to the next where it
 -- does not.
 -- Assumes nothing.
-use mathlib.Core.Path.{ap, _∙_}
+use mathlib.Core.Path.{_≡_, ap, _∙_}
 use borrow.Author.Needs.{needs}
-use Rattle.model.specs.Answers.{verdictAnswer, oneStreamAnswer}
+use Rattle.model.specs.Answers.{unknownRefusal, verdictAnswer, oneStreamAnswer}
 use Rattle.model.proofs.Refusals.{refused, passed}
 use Rattle.model.proofs.Asked.{known-on}
 use Rattle.analysis.proofs.one_stream.Statement.{statement}
@@ -16,24 +16,31 @@ returns : tie.Need-returns
 unfolding oneStreamAnswer
 returns c = refused _ (c .before .before .check-sheet .ensures) (c .if1 .taken)
 
-check-known-requires : tie.Need-check-known-requires
-check-known-requires c κs = search needs
+is-unknown-requires : tie.Need-is-unknown-requires
+is-unknown-requires c κs = search needs
+
+refuse-if-requires : tie.Need-refuse-if-requires
+refuse-if-requires c κs = search needs
+
+-- the check is refusal 8
+unknown : (c : tie.After-refuse-if) → c .refuse-if .result ≡ unknownRefusal (c .before .before .before .before .before .before .args .sheet .now) (c .before .before .before .before .before .before .args .node) (c .before .before .before .before .before .before .args .stream)
+unfolding unknownRefusal
+unknown c = rw (c .before .is-unknown .ensures) at (c .refuse-if .ensures)
 
 returns-2 : tie.Need-returns-2
 unfolding oneStreamAnswer
 returns-2 c =
-    passed (c .before .before .before .before .before .check-sheet .ensures) (c .before .before .before .if1 .left)
-    (refused _ (c .before .before .check-known .ensures) (c .if2 .taken))
+    passed (c .before .before .before .before .before .before .check-sheet .ensures) (c .before .before .before .before .if1 .left)
+    (refused _ (unknown (c .before .before)) (c .if2 .taken))
 
 cycle-of-requires : tie.Need-cycle-of-requires
-cycle-of-requires c κs =
-    rw (c .before .before .before .before .before .check-sheet .ensures) at (c .before .before .before .if1 .left)
+cycle-of-requires c κs = rw (c .before .before .before .before .before .before .check-sheet .ensures) at (c .before .before .before .before .if1 .left)
 
 verdict-on-requires : tie.Need-verdict-on-requires
 verdict-on-requires c κs =
-    let a = c .before .before .before .before .before .before .before .before .args in (
-      rw (c .before .before .before .before .before .before .check-sheet .ensures) at (c .before .before .before .before .if1 .left),
-      known-on (a .sheet .now) (a .node) (a .stream) (rw (c .before .before .before .check-known .ensures) at (c .before .if2 .left)),
+    let a = c .before .before .before .before .before .before .before .before .before .args in (
+      rw (c .before .before .before .before .before .before .before .check-sheet .ensures) at (c .before .before .before .before .before .if1 .left),
+      known-on (a .sheet .now) (a .node) (a .stream) (rw (unknown (c .before .before .before)) at (c .before .if2 .left)),
       c .cycle-of .ensures,
     )
 
@@ -43,9 +50,9 @@ answer-of-requires c κs = search needs
 returns-3 : tie.Need-returns-3
 unfolding oneStreamAnswer
 returns-3 c =
-    let a = c .before .before .before .before .before .before .before .before .before .before .args in
-    passed (c .before .before .before .before .before .before .before .before .check-sheet .ensures) (c .before .before .before .before .before .before .if1 .left)
-    (passed (c .before .before .before .before .before .check-known .ensures) (c .before .before .before .if2 .left)
+    let a = c .before .before .before .before .before .before .before .before .before .before .before .args in
+    passed (c .before .before .before .before .before .before .before .before .before .check-sheet .ensures) (c .before .before .before .before .before .before .before .if1 .left)
+    (passed (unknown (c .before .before .before .before .before)) (c .before .before .before .if2 .left)
     (c .answer-of .ensures ∙ ap (verdictAnswer (a .node) (a .stream)) (c .before .verdict-on .ensures)))
 
 pub one-stream-spec : {M : Type 1} → statement M
@@ -54,7 +61,8 @@ one-stream-spec =
     (tie.spec
     check-sheet-requires
     returns
-    check-known-requires
+    is-unknown-requires
+    refuse-if-requires
     returns-2
     cycle-of-requires
     verdict-on-requires

@@ -2,17 +2,17 @@
 -- does not. What the rows gave bounds the number of streams.
 -- Assumes nothing.
 use Prim.Native.Nat.{ℕ, _≤_, _+_, _*_}
-use mathlib.Core.Path.{_≡_, refl, sym, ap, _∙_}
+use mathlib.Core.Path.{_≡_, ap, _∙_}
 use mathlib.Core.Bool.{not}
 use mathlib.Core.List.{List}
-use native.Mathlib.Nat.{le-refl, suc-ne-zero}
+use native.Mathlib.Nat.{le-refl}
 use native.Mathlib.Omega.{arith}
 use borrow.Author.Needs.{needs}
-use borrow.Author.Tests.{eq-eqb, ne-eqb}
+use lib.Dec.{eqb}
 use lib.ListN.{length}
-use Rattle.model.specs.Refusal.{refuse, firstOf}
+use Rattle.model.specs.Refusal.{refuse, refuseIf, firstOf}
 use Rattle.model.specs.Sheet.{streamsUpTo, sheetLength, rowRefusal, sheetRefusal}
-use Rattle.model.proofs.Refusals.{refused, passed, refuseIf-so, refuseIf-not, first-none}
+use Rattle.model.proofs.Refusals.{refused, passed, first-none}
 use Rattle.model.proofs.ValidSheet.{header-fits, row-fits}
 use Rattle.model.proofs.RunningSums.{streams-most}
 use Rattle.sheet.proofs.check_sheet.Statement.{statement}
@@ -53,31 +53,37 @@ contents-words-requires c κs = search needs
 streams-up-to-requires : tie.Need-streams-up-to-requires
 streams-up-to-requires c κs = search needs
 
-mul-if3 : tie.Need-mul-if3
-mul-if3 c =
+mul-end : tie.Need-mul-end
+mul-end c =
     let n = c .before .before .before .before .before .word-at .result in
     let sum = few (c .before .before .before .before .before .before .before .before .before .before .args .sheet .now) n (rw (c .before .before .before .before .check-rows .ensures) at (c .before .before .if2 .left)) in
     omega (arith, sum, c .streams-up-to .ensures, c .before .before .before .before .before .word-at .ok)
 
-add-if3 : tie.Need-add-if3
-add-if3 c =
+add-end : tie.Need-add-end
+add-end c =
     let n = c .before .before .before .before .before .word-at .result in
     let sum = few (c .before .before .before .before .before .before .before .before .before .before .args .sheet .now) n (rw (c .before .before .before .before .check-rows .ensures) at (c .before .before .if2 .left)) in
     omega (arith, sum, c .streams-up-to .ensures, c .before .before .before .before .before .word-at .ok, c .before .contents-words .ensures .1)
 
+refuse-if-requires : tie.Need-refuse-if-requires
+refuse-if-requires c κs = search needs
+
+-- the check of the total length is the definition's
+length-checked : (c : tie.After-refuse-if)
+    → c .refuse-if .result ≡ refuseIf (not (eqb (length (c .before .before .before .before .before .before .before .before .before .before .before .args .sheet .now)) (sheetLength (c .before .before .before .before .before .before .before .before .before .before .before .args .sheet .now)))) (refuse 4 0 0)
+length-checked c =
+    let s = c .before .before .before .before .before .before .before .before .before .before .before .args .sheet .now in
+    let sum = rw (c .before .before .before .before .before .before .word-at .ensures) at (c .before .streams-up-to .ensures) in
+    let end : c .before .before .contents-words .result + 2 * c .before .streams-up-to .result ≡ sheetLength s = omega (arith, sum, c .before .before .contents-words .ensures .0) in
+    c .refuse-if .ensures ∙ ap (λ n. refuseIf (not (eqb (length s) n)) (refuse 4 0 0)) end
+
 returns-3 : tie.Need-returns-3
 unfolding sheetRefusal
 returns-3 c =
-    let s = (c .before .before .before .before .before .before .before .before .before .before .before .args .sheet .now) in
-    let n = c .before .before .before .before .before .before .word-at .ensures in
-    let sum = rw n at (c .before .streams-up-to .ensures) in
-    let end : c .before .before .contents-words .result + 2 * c .before .streams-up-to .result ≡ sheetLength s =
-    omega (arith, sum, c .before .before .contents-words .ensures .0) in
-    passed (c .before .before .before .before .before .before .before .before .before .check-header .ensures) (c .before .before .before .before .before .before .before .if1 .left)
-    (passed (rw n at (c .before .before .before .before .before .check-rows .ensures)) (c .before .before .before .if2 .left)
-    (refused _
-    (sym (refuseIf-so (refuse 4 0 0) (ap not (ne-eqb (length s) (sheetLength s) (λ e. c .if3 .taken (e ∙ sym end))))))
-    (λ z. suc-ne-zero 3 z)))
+    let n = c .before .before .before .before .before .before .before .before .word-at .ensures in
+    passed (c .before .before .before .before .before .before .before .before .before .before .before .check-header .ensures) (c .before .before .before .before .before .before .before .before .before .if1 .left)
+    (passed (rw n at (c .before .before .before .before .before .before .before .check-rows .ensures)) (c .before .before .before .before .before .if2 .left)
+    (refused _ (length-checked (c .before .before)) (c .if3 .taken)))
 
 check-bodies-requires : tie.Need-check-bodies-requires
 check-bodies-requires c κs = search needs
@@ -85,16 +91,10 @@ check-bodies-requires c κs = search needs
 returns-4 : tie.Need-returns-4
 unfolding sheetRefusal
 returns-4 c =
-    let s = (c .before .before .before .before .before .before .before .before .before .before .before .before .args .sheet .now) in
-    let n = c .before .before .before .before .before .before .before .word-at .ensures in
-    let sum = rw n at (c .before .before .streams-up-to .ensures) in
-    let end : c .before .before .before .contents-words .result + 2 * c .before .before .streams-up-to .result ≡ sheetLength s =
-    omega (arith, sum, c .before .before .before .contents-words .ensures .0) in
-    passed (c .before .before .before .before .before .before .before .before .before .before .check-header .ensures) (c .before .before .before .before .before .before .before .before .if1 .left)
-    (passed (rw n at (c .before .before .before .before .before .before .check-rows .ensures)) (c .before .before .before .before .if2 .left)
-    (passed
-    (sym (refuseIf-not (refuse 4 0 0) (ap not (eq-eqb (length s) (sheetLength s) (c .before .if3 .left ∙ end)))))
-    refl
+    let n = c .before .before .before .before .before .before .before .before .before .word-at .ensures in
+    passed (c .before .before .before .before .before .before .before .before .before .before .before .before .check-header .ensures) (c .before .before .before .before .before .before .before .before .before .before .if1 .left)
+    (passed (rw n at (c .before .before .before .before .before .before .before .before .check-rows .ensures)) (c .before .before .before .before .before .before .if2 .left)
+    (passed (length-checked (c .before .before .before)) (c .before .if3 .left)
     (rw n at (c .check-bodies .ensures))))
 
 pub check-sheet-spec : {M : Type 1} → statement M
@@ -108,8 +108,9 @@ check-sheet-spec =
     returns-2
     contents-words-requires
     streams-up-to-requires
-    mul-if3
-    add-if3
+    mul-end
+    add-end
+    refuse-if-requires
     returns-3
     check-bodies-requires
     returns-4)

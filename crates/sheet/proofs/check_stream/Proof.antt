@@ -1,8 +1,5 @@
--- `sheet::check_stream` meets its contract: the branch decides the definition's test.
--- Assumes nothing.
+-- `sheet::check_stream` meets its contract: the test is the definition's. Assumes nothing.
 use borrow.Author.Needs.{needs}
-use mathlib.Core.Path.{refl, sym, _∙_}
-use Rattle.model.specs.Refusal.{refuseIf}
 use Rattle.model.specs.Sheet.{streamRefusal}
 use Rattle.sheet.proofs.check_stream.Statement.{statement}
 use Rattle.sheet.proofs.check_stream.Tie as tie
@@ -10,13 +7,12 @@ use Rattle.sheet.proofs.check_stream.Tie as tie
 stream-is-wrong-requires : tie.Need-stream-is-wrong-requires
 stream-is-wrong-requires c κs = search needs
 
-returns : tie.Need-returns
-unfolding streamRefusal refuseIf
-returns c = rw (sym (c .before .stream-is-wrong .ensures) ∙ c .if1 .taken) refl
+refuse-if-requires : tie.Need-refuse-if-requires
+refuse-if-requires c κs = search needs
 
-returns-2 : tie.Need-returns-2
-unfolding streamRefusal refuseIf
-returns-2 c = rw (sym (c .before .stream-is-wrong .ensures) ∙ c .if1 .left) refl
+returns : tie.Need-returns
+unfolding streamRefusal
+returns c = rw (c .before .stream-is-wrong .ensures) at (c .refuse-if .ensures)
 
 pub check-stream-spec : {M : Type 1} → statement M
-check-stream-spec = tie.close (tie.spec stream-is-wrong-requires returns returns-2)
+check-stream-spec = tie.close (tie.spec stream-is-wrong-requires refuse-if-requires returns)

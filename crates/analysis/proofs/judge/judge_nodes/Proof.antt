@@ -13,7 +13,7 @@ use Rattle.model.specs.Answers.{nodeLateRefusal, nodeWaitsFrom}
 use Rattle.model.proofs.Refusals.{rest, rest-start, rest-on, rest-stop, rest-end}
 use Rattle.analysis.proofs.Filling.{fill-part, part-length, fill-end}
 use Rattle.model.proofs.RunningSums.{streams-next, streams-room}
-use Rattle.model.proofs.Waits.{nodesLeft, nodes-all, nodes-next, nodes-none}
+use Rattle.model.proofs.ListedWaits.{nodesLeft, nodes-all, nodes-next, nodes-none}
 use Rattle.analysis.proofs.judge.judge_nodes.Statement.{statement}
 use Rattle.analysis.proofs.judge.judge_nodes.Tie as tie
 

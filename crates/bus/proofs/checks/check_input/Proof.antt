@@ -2,6 +2,7 @@
 -- it does not. Assumes nothing.
 use borrow.Author.Needs.{needs}
 use mathlib.Core.Path.{refl}
+use Rattle.model.specs.Answers.{roomRefusal}
 use Rattle.model.proofs.Refusals.{refused, passed}
 use Rattle.bus.proofs.checks.check_input.Statement.{statement}
 use Rattle.bus.proofs.checks.check_input.Tie as tie
@@ -26,14 +27,15 @@ returns-3 c =
     (passed (c .before .before .before .before .check-log .ensures) (c .before .before .if2 .left)
     (refused _ refl (c .if3 .taken)))
 
-check-room-requires : tie.Need-check-room-requires
-check-room-requires c κs = search needs
+refuse-if-requires : tie.Need-refuse-if-requires
+refuse-if-requires c κs = search needs
 
 returns-4 : tie.Need-returns-4
+unfolding roomRefusal
 returns-4 c =
     passed (c .before .before .before .before .before .before .before .before .check-sheet .ensures) (c .before .before .before .before .before .before .if1 .left)
     (passed (c .before .before .before .before .before .check-log .ensures) (c .before .before .before .if2 .left)
-    (passed refl (c .before .if3 .left) (c .check-room .ensures)))
+    (passed refl (c .before .if3 .left) (c .refuse-if .ensures)))
 
 pub check-input-spec : {M : Type 1} → statement M
 check-input-spec =
@@ -44,5 +46,5 @@ check-input-spec =
     check-log-requires
     returns-2
     returns-3
-    check-room-requires
+    refuse-if-requires
     returns-4)

@@ -1,9 +1,6 @@
--- `bus::log::check_release` meets its contract: the branch decides the definition's test.
--- Assumes nothing.
+-- `bus::log::check_release` meets its contract: the test is the definition's, of the release after i others. Assumes nothing.
 use borrow.Author.Needs.{needs}
 use native.Mathlib.Numerals.{add-one}
-use mathlib.Core.Path.{refl}
-use Rattle.model.specs.Refusal.{refuseIf}
 use Rattle.model.specs.Answers.{releaseRefusal}
 use Rattle.bus.proofs.log.check_release.Statement.{statement}
 use Rattle.bus.proofs.log.check_release.Tie as tie
@@ -11,26 +8,22 @@ use Rattle.bus.proofs.log.check_release.Tie as tie
 release-is-wrong-requires : tie.Need-release-is-wrong-requires
 release-is-wrong-requires c κs = search needs
 
-add-t8 : tie.Need-add-t8
-add-t8 c = search needs
+add-refuse-if : tie.Need-add-refuse-if
+add-refuse-if c = search needs
 
-cast-t9 : tie.Need-cast-t9
-cast-t9 c = search needs
+cast-refuse-if : tie.Need-cast-refuse-if
+cast-refuse-if c = search needs
+
+refuse-if-requires : tie.Need-refuse-if-requires
+refuse-if-requires c κs = search needs
 
 returns : tie.Need-returns
-unfolding releaseRefusal refuseIf
+unfolding releaseRefusal
 returns c =
     let i = c .before .before .before .before .args .i in
     let pre = c .before .before .before .before .pre .1 in
-    rw (add-one i, rw (c .before .release-is-wrong .ensures, pre .0, pre .1, add-one i) at (c .if1 .taken)) refl
-
-returns-2 : tie.Need-returns-2
-unfolding releaseRefusal refuseIf
-returns-2 c =
-    let i = c .before .before .before .before .args .i in
-    let pre = c .before .before .before .before .pre .1 in
-    rw (add-one i, rw (c .before .release-is-wrong .ensures, pre .0, pre .1, add-one i) at (c .if1 .left)) refl
+    rw (add-one i) (rw (c .before .release-is-wrong .ensures, pre .0, pre .1, add-one i) at (c .refuse-if .ensures))
 
 pub check-release-spec : {M : Type 1} → statement M
 check-release-spec =
-    tie.close (tie.spec release-is-wrong-requires add-t8 cast-t9 returns returns-2)
+    tie.close (tie.spec release-is-wrong-requires add-refuse-if cast-refuse-if refuse-if-requires returns)
