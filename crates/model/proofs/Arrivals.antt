@@ -8,6 +8,7 @@ use native.Mathlib.Omega.{arith}
 use native.Mathlib.Decide.{ℕ-discrete}
 use native.Mathlib.Nat.{le-div-iff-mul-le}
 use Rattle.model.specs.Analysis.{Stream, interference}
+use Rattle.model.proofs.Interference.{sum, interference-sum}
 use Rattle.model.proofs.Counting.{count, count-yes, count-no, count-witness, count-cover, count-mono}
 
 -- Any two members below n are at least p apart under the key.
@@ -92,11 +93,6 @@ successive-apart {P} P? key p (suc n) next a b l h m m' =
             omega (arith, ih (a + suc k) (omega arith) (omega arith) m q, next (a + suc k) b u h q m' none)
         go back (no d) = back (λ i f g q. other d i f g q (ℕ-discrete i (a + suc k)))
 
--- The sum of a bound over a list.
-unfoldable pub sum : {A : Type 0} → (A → ℕ) → List A → ℕ
-sum bound [] = 0
-sum bound (y ∷ ys) = bound y + sum bound ys
-
 -- Where each member is of something in a list, there are at most as many as the sum of the bounds for those.
 pub count-sum : {A : Type 0} {Of : A → ℕ → Type 0} (of? : (y : A) (i : ℕ) → Dec (Of y i)) (bound : A → ℕ) (n : ℕ) (ys : List A)
     {P : ℕ → Type 0} (P? : (i : ℕ) → Dec (P i)) →
@@ -143,12 +139,6 @@ count-sum {A} {Of} of? bound n (y ∷ ys) {P} P? each most =
           count-mono (λ i. Dec·and (rest? i) (of? z i)) (λ i. Dec·and (P? i) (of? z i)) n (λ i h (m, o). (m .0, o)),
           most z (List·Memᴰ·tail k),
         )
-
--- Interference is the sum over the streams of the most that each can release.
-interference-sum : (ys : List Stream) (w : ℕ) → sum (λ y. 1 + w / y .period) ys ≡ interference ys w
-unfolding sum interference
-interference-sum [] w = refl
-interference-sum (y ∷ ys) w = ap (λ (k : ℕ). 1 + w / y .period + k) (interference-sum ys w)
 
 -- Members of streams that are at least a period apart, with all keys in [x, x + w], are no more than the interference.
 pub arrivals-interference : {Of : Stream → ℕ → Type 0} (of? : (y : Stream) (i : ℕ) → Dec (Of y i)) (key : ℕ → ℕ) (x w n : ℕ)

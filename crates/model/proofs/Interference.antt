@@ -1,5 +1,5 @@
--- Interference, "H": it grows with the window; and how many streams it is over. Assumes nothing.
-use Prim.Native.Nat.{ℕ, zero, suc, _/_, _≤_, zero-le}
+-- Interference, "H": it is a sum over the streams, and grows with the window; and how many streams it is over. Assumes nothing.
+use Prim.Native.Nat.{ℕ, zero, suc, _+_, _/_, _≤_, zero-le}
 use native.Mathlib.Nat.{le-trans, zero-lt-suc, div-zero, div-mul-le-self, le-div-iff-mul-le}
 use native.Mathlib.Omega.{arith}
 use mathlib.Core.Path.{_≡_, refl, ap}
@@ -24,6 +24,23 @@ above-length x (y ∷ ys) = go (above-length x ys) (outranks y x)
     go h true = omega arith
     go h false = omega arith
 
+-- The sum of a bound over a list.
+unfoldable pub sum : {A : Type 0} → (A → ℕ) → List A → ℕ
+sum bound [] = 0
+sum bound (y ∷ ys) = bound y + sum bound ys
+
+-- Interference is the sum over the streams of the most that each can release.
+pub interference-sum : (ys : List Stream) (w : ℕ) → sum (λ y. 1 + w / y .period) ys ≡ interference ys w
+unfolding sum interference
+interference-sum [] w = refl
+interference-sum (y ∷ ys) w = ap (λ (k : ℕ). 1 + w / y .period + k) (interference-sum ys w)
+
+-- A larger bound for each has no smaller sum.
+sum-grows : {A : Type 0} (f g : A → ℕ) → ((y : A) → f y ≤ g y) → (ys : List A) → sum f ys ≤ sum g ys
+unfolding sum
+sum-grows f g more [] = zero-le
+sum-grows f g more (y ∷ ys) = omega (arith, more y, sum-grows f g more ys)
+
 -- A floor grows with what is divided, also where the period is 0: then it is 0.
 div-grows : (p : ℕ) {v w : ℕ} → v ≤ w → v / p ≤ w / p
 div-grows zero {v} {w} h = rw (div-zero v, div-zero w) zero-le
@@ -31,6 +48,6 @@ div-grows (suc p) {v} {w} h = le-div-iff-mul-le (zero-lt-suc p) .1 (le-trans (di
 
 -- A longer window has no less interference.
 pub interference-grows : (ys : List Stream) {v w : ℕ} → v ≤ w → interference ys v ≤ interference ys w
-unfolding interference
-interference-grows [] h = zero-le
-interference-grows (y ∷ ys) {v} {w} h = omega (arith, div-grows (y .period) h, interference-grows ys h)
+interference-grows ys {v} {w} h =
+    rw (← interference-sum ys v, ← interference-sum ys w)
+    (sum-grows (λ y. 1 + v / y .period) (λ y. 1 + w / y .period) (λ y. omega (arith, div-grows (y .period) h)) ys)
