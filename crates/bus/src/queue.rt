@@ -36,7 +36,7 @@ fn rank_key(sheet: &[u32], body: usize, before: usize, r: usize) -> u64
     sheet[body + 2 * (r - before - 1)] as u64 * 4294967296 + r as u64
 }
 
-// How many of the releases from `from` to before `to` have not begun: the word for that is the largest, and divides no other.
+// How many of the releases from `from` to before `to` have not begun. Their word is the largest: divided by it, they alone give 1.
 fn unbegun(room: &[u32], from: usize, to: usize) -> u32
     requires { ⌜ (from ≤ to) × (to ≤ from + 64) × (to ≤ length (now room)) ⌝ }
     ensures { λ r. ⌜ (r ≡ 0 → BegunFrom (now (room .entry)) from to) ⌝ }
