@@ -16,7 +16,7 @@ use Rattle.model.proofs.NotRefused.{ReplayAccepted, replay-accepted, replay-ans
 use Rattle.model.proofs.Run.{replayed-length}
 use Rattle.model.proofs.ReplayDemand.{replay-demand}
 use Rattle.model.specs.Demand.{WholeReplay}
-use Rattle.bus.specs.Replay.{replayRefusal}
+use Rattle.log.specs.Replay.{replayRefusal}
 
 -- What the replay answers and writes.
 pub record ReplayOutcome (s log : List ℕ) (horizon : ℕ) (room : List ℕ) (answer : Answer) (buffer : List ℕ) : Type 0 where

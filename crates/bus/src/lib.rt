@@ -1,10 +1,10 @@
-// The bus: the log, one turn, one step over a lent record, and the replay.
+// The bus: one turn, one step with the record by value, and the replay.
 ghost use mathlib.Core.Path.{_≡_};
 ghost use lib.ListN.{length};
 ghost use Rattle.model.specs.Demand.{WholeReplay};
 ghost use Rattle.model.specs.Answers.{stepAnswer, stepBus, stepBuffer, replayAnswer, replayBuffer};
-use checks::check_replay;
-use checks::check_step;
+use log::check_replay;
+use log::check_step;
 use model::Answer;
 use model::Bus;
 use queue::arrived_by;
@@ -13,8 +13,6 @@ use turns::next_bus;
 use turns::run_to;
 use turns::run_turn;
 
-mod log; // log.rt: refusal 9
-mod checks; // checks.rt: the refusals of the entries
 mod queue; // queue.rt: who is the first of the releases that wait
 mod turns; // turns.rt: one turn, and the run of turns to a horizon
 

@@ -7,7 +7,7 @@ use lib.ListN.{length, drop, replicate, length-replicate}
 use lib.Seq.{take-at, drop-at}
 use Rattle.model.specs.Limits.{notBegun}
 use Rattle.model.specs.Protocol.{releases}
-use Rattle.bus.specs.Replay.{replayRefusal}
+use Rattle.log.specs.Replay.{replayRefusal}
 use Rattle.model.proofs.NotRefused.{ReplayAccepted}
 use Rattle.bus.proofs.AcceptedLog.{log-rises}
 use Rattle.bus.proofs.ReplayOutcome.{replay-checked, replay-refused, replay-done, outcome-demand}

@@ -1,4 +1,4 @@
--- `bus::log::check_log` meets its contract: each part's answer is the chain's where it refuses, and hands on to the next where it
+-- `log::reader::check_log` meets its contract: each part's answer is the chain's where it refuses, and hands on to the next where it
 -- does not. Assumes nothing.
 use native.Mathlib.Nat.{suc-ne-zero}
 use borrow.Author.Needs.{needs}
@@ -9,8 +9,8 @@ use Rattle.model.specs.Refusal.{refuse}
 use Rattle.model.specs.Protocol.{releases}
 use Rattle.model.specs.Answers.{logRefusal}
 use Rattle.model.proofs.Refusals.{refused, passed, refuseIf-none}
-use Rattle.bus.proofs.log.check_log.Statement.{statement}
-use Rattle.bus.proofs.log.check_log.Tie as tie
+use Rattle.log.proofs.reader.check_log.Statement.{statement}
+use Rattle.log.proofs.reader.check_log.Tie as tie
 
 refuse-if-requires : tie.Need-refuse-if-requires
 refuse-if-requires c κs = search needs

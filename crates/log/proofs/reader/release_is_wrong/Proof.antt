@@ -1,4 +1,4 @@
--- `bus::log::release_is_wrong` meets its contract: each exit rewrites the definition with the tests that led there.
+-- `log::reader::release_is_wrong` meets its contract: each exit rewrites the definition with the tests that led there.
 -- Assumes nothing.
 use borrow.Author.Needs.{needs}
 use borrow.Author.Tests.{lt-ltb, le-ltb}
@@ -6,8 +6,8 @@ use mathlib.Core.Path.{refl}
 use Rattle.model.specs.Refusal.{outside}
 use Rattle.model.specs.Protocol.{releaseTick, releaseStream}
 use Rattle.model.specs.Limits.{maxTime}
-use Rattle.bus.proofs.log.release_is_wrong.Statement.{statement}
-use Rattle.bus.proofs.log.release_is_wrong.Tie as tie
+use Rattle.log.proofs.reader.release_is_wrong.Statement.{statement}
+use Rattle.log.proofs.reader.release_is_wrong.Tie as tie
 
 mul-tick : tie.Need-mul-tick
 mul-tick c = search needs

@@ -1,9 +1,9 @@
--- `bus::checks::check_replay` meets its contract: the check of its own in the chain is the definition's. Assumes nothing.
+-- `log::check_replay` meets its contract: the check of its own in the chain is the definition's. Assumes nothing.
 use borrow.Author.Needs.{needs}
 use Rattle.model.specs.Answers.{horizonRefusal}
-use Rattle.bus.specs.Replay.{replayRefusal}
-use Rattle.bus.proofs.checks.check_replay.Statement.{statement}
-use Rattle.bus.proofs.checks.check_replay.Tie as tie
+use Rattle.log.specs.Replay.{replayRefusal}
+use Rattle.log.proofs.check_replay.Statement.{statement}
+use Rattle.log.proofs.check_replay.Tie as tie
 
 refuse-if-requires : tie.Need-refuse-if-requires
 refuse-if-requires c κs = search needs

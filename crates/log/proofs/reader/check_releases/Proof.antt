@@ -1,4 +1,4 @@
--- `bus::log::check_releases` meets its contract: what is left of the row of checks equals the whole, and `before` is the tick that
+-- `log::reader::check_releases` meets its contract: what is left of the row of checks equals the whole, and `before` is the tick that
 -- the next release must not be below. Assumes nothing.
 use Prim.Native.Nat.{_≤_, _+_, _-_}
 use mathlib.Core.Path.{_≡_, refl}
@@ -10,8 +10,8 @@ use Rattle.model.specs.Sheet.{totalStreams}
 use Rattle.model.specs.Protocol.{releases}
 use Rattle.model.specs.Answers.{tickBefore, releaseRefusal}
 use Rattle.model.proofs.Refusals.{rest, rest-start, rest-on, rest-stop, rest-end}
-use Rattle.bus.proofs.log.check_releases.Statement.{statement}
-use Rattle.bus.proofs.log.check_releases.Tie as tie
+use Rattle.log.proofs.reader.check_releases.Statement.{statement}
+use Rattle.log.proofs.reader.check_releases.Tie as tie
 
 abbrev Inv-loop : tie.InvT-loop
 Inv-loop sheet log streams count before₀ i₀ before i =

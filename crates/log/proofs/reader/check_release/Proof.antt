@@ -1,9 +1,9 @@
--- `bus::log::check_release` meets its contract: the test is the definition's, of the release after i others. Assumes nothing.
+-- `log::reader::check_release` meets its contract: the test is the definition's, of the release after i others. Assumes nothing.
 use borrow.Author.Needs.{needs}
 use native.Mathlib.Numerals.{add-one}
 use Rattle.model.specs.Answers.{releaseRefusal}
-use Rattle.bus.proofs.log.check_release.Statement.{statement}
-use Rattle.bus.proofs.log.check_release.Tie as tie
+use Rattle.log.proofs.reader.check_release.Statement.{statement}
+use Rattle.log.proofs.reader.check_release.Tie as tie
 
 release-is-wrong-requires : tie.Need-release-is-wrong-requires
 release-is-wrong-requires c κs = search needs

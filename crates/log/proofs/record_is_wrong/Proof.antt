@@ -1,12 +1,12 @@
--- `bus::checks::record_is_wrong` meets its contract: at each exit the tests before it failed, and its own is the answer.
+-- `log::record_is_wrong` meets its contract: at each exit the tests before it failed, and its own is the answer.
 -- Assumes nothing.
 use borrow.Author.Needs.{needs}
 use borrow.Author.Tests.{lt-ltb, le-ltb}
 use mathlib.Core.Path.{sym}
 use Rattle.model.specs.Limits.{maxTime}
 use Rattle.model.proofs.Tests.{or-first, or-second}
-use Rattle.bus.proofs.checks.record_is_wrong.Statement.{statement}
-use Rattle.bus.proofs.checks.record_is_wrong.Tie as tie
+use Rattle.log.proofs.record_is_wrong.Statement.{statement}
+use Rattle.log.proofs.record_is_wrong.Tie as tie
 
 returns : tie.Need-returns
 returns c = sym (or-first _ (or-first _ (lt-ltb maxTime (c .before .before .before .args .bus .tick) (c .if1 .taken))))

@@ -1,11 +1,11 @@
--- `bus::checks::check_input` meets its contract: each part's answer is the chain's where it refuses, and hands on to the next where
+-- `log::check_input` meets its contract: each part's answer is the chain's where it refuses, and hands on to the next where
 -- it does not. Assumes nothing.
 use borrow.Author.Needs.{needs}
 use mathlib.Core.Path.{refl}
 use Rattle.model.specs.Answers.{roomRefusal}
 use Rattle.model.proofs.Refusals.{refused, passed}
-use Rattle.bus.proofs.checks.check_input.Statement.{statement}
-use Rattle.bus.proofs.checks.check_input.Tie as tie
+use Rattle.log.proofs.check_input.Statement.{statement}
+use Rattle.log.proofs.check_input.Tie as tie
 
 check-sheet-requires : tie.Need-check-sheet-requires
 check-sheet-requires c κs = search needs

@@ -1,8 +1,8 @@
--- `bus::checks::check_step` meets its contract: the check of its own in the chain is the definition's. Assumes nothing.
+-- `log::check_step` meets its contract: the check of its own in the chain is the definition's. Assumes nothing.
 use borrow.Author.Needs.{needs}
 use Rattle.model.specs.Answers.{recordRefusal, stepRefusal}
-use Rattle.bus.proofs.checks.check_step.Statement.{statement}
-use Rattle.bus.proofs.checks.check_step.Tie as tie
+use Rattle.log.proofs.check_step.Statement.{statement}
+use Rattle.log.proofs.check_step.Tie as tie
 
 record-is-wrong-requires : tie.Need-record-is-wrong-requires
 record-is-wrong-requires c κs = search needs

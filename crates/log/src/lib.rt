@@ -1,4 +1,5 @@
-// The refusals of the entries, in their order.
+// The refusals of the entries that are lent a log, in their order: those of the sheet, of the log, of the entry itself and of the
+// buffer.
 ghost use mathlib.Core.Path.{_≡_};
 ghost use mathlib.Core.Bool.{_||_};
 ghost use lib.Dec.{ltb};
@@ -7,11 +8,13 @@ ghost use Rattle.model.specs.Refusal.{_orElse_, outside};
 ghost use Rattle.model.specs.Sheet.{nodes, sheetRefusal};
 ghost use Rattle.model.specs.Protocol.{releases};
 ghost use Rattle.model.specs.Answers.{roomRefusal, logRefusal, stepRefusal};
-ghost use Rattle.bus.specs.Replay.{replayRefusal};
-use crate::log::check_log;
+ghost use Rattle.log.specs.Replay.{replayRefusal};
 use layout::refuse_if;
 use model::Answer;
 use model::Bus;
+use reader::check_log;
+
+mod reader; // reader.rt: refusal 9
 
 // A tick or a number of turns too large in a record, or a node that is not on the bus.
 fn record_is_wrong(sheet: &[u32], bus: Bus) -> bool

@@ -1,0 +1,2 @@
+-- What the contracts of the log cite beside document 01's definitions.
+pub mod Replay
