@@ -1,6 +1,6 @@
 #!/usr/bin/env bash
 # What docs/CLAIMS.md names is there: each must-fail edit (CRATE/EDIT, and more edits of the same crate after a comma), and each
-# definition, law or function in backquotes. And each edit is named there, but for layout's, of which it says two an accessor.
+# definition, law or function in backquotes. And each edit is named there, but for layout's, of which it says two a function.
 set -u
 cd "$(dirname "$0")/.." || exit 1
 page=docs/CLAIMS.md
