@@ -1,65 +1,55 @@
-// The admit program: reads a sheet from standard input and writes the table of listed waits, or the refusal.
+// The admit program: reads a sheet from standard input and writes the table of listed waits, or the refusal. What it writes is given by
+// a definition, up to the call that writes it.
+ghost use mathlib.Core.Path.{_≡_};
+ghost use lib.ListN.{length, take};
+ghost use Rattle.model.specs.Limits.{longestSheet};
+ghost use Rattle.io.specs.Counts.{Counts};
+ghost use Rattle.input.specs.Input.{readBytes};
+ghost use Rattle.report.specs.Longest.{longestAdmitText};
+ghost use Rattle.admit.specs.Output.{answerText, output};
+use input::SHEET_BYTES;
+use input::SHEET_WORDS;
 use libc::STDIN_FILENO;
-use model::Answer;
+use libc::STDOUT_FILENO;
 
-// One line of the table.
-fn row(node: u32, stream: u32, wait: u32) {
-    report::number(node);
-    report::text(b" ");
-    report::number(stream);
-    report::text(b" ");
-    report::number(wait);
-    report::text(b"\n");
+// Bytes of the longest text: 17 for the head, 17 a stream for 256 streams, and 20 for the line under them.
+const TEXT_BYTES: usize = 4389;
+
+// Reads standard input, to one byte past the longest sheet.
+fn read_sheet(bytes: &mut [u8]) -> usize
+    requires { ⌜ length (now bytes) ≡ readBytes longestSheet ⌝ }
+    ensures { λ r. ⌜ Counts r (now (bytes .exit)) ⌝ }
+{
+    io::read_full(STDIN_FILENO, bytes)
 }
 
-// The lines of one node, whose waits start at `from`; answers where the next node's start. An admitted sheet has a wait for each of
-// its streams; the test keeps the index in range for any other.
-fn rows(sheet: &[u32], node: u32, waits: &[u32], from: usize) -> usize {
-    let count = layout::stream_count(sheet, node);
-    let mut at = from;
-    let mut i: u32 = 0;
-    while i < count {
-        if waits.len() <= at {
-            return at;
-        }
-        i += 1;
-        row(node, i, waits[at]);
-        at += 1;
-    }
-    at
-}
-
-// The lines of all nodes.
-fn all_rows(sheet: &[u32], waits: &[u32]) {
-    let n = layout::word_at(sheet, 0);
-    let mut at: usize = 0;
-    let mut i: u32 = 0;
-    while i < n {
-        i += 1;
-        at = rows(sheet, i, waits, at);
-    }
-}
-
-// The table and the line under it.
-fn table(sheet: &[u32], waits: &[u32], streams: u32) {
-    report::text(b"node stream wait\n");
-    all_rows(sheet, waits);
-    report::text(b"admitted ");
-    report::number(streams);
-    report::text(b"\n");
-}
-
-// One byte more than the longest valid sheet has is read, so that a longer input is seen as such.
-fn main() {
-    let mut bytes = [0u8; 2253];
-    let got = io::read_full(STDIN_FILENO, &mut bytes);
-    let mut words = [0u32; 563];
-    let n = input::load(&bytes[..got], &mut words);
+// The text for a sheet.
+fn put_answer(sheet: &[u32], text: &mut [u8]) -> usize
+    requires { ⌜ length (now text) ≡ longestAdmitText ⌝ }
+    ensures counts { λ r. ⌜ Counts r (now (text .exit)) ⌝ }
+    ensures text { λ r. ⌜ take r (now (text .exit)) ≡ answerText (now (sheet .entry)) ⌝ }
+{
     let mut waits = [0u32; 256];
-    let answer = analysis::admit(&words[..n], &mut waits);
-    if answer.number == 0 {
-        table(&words[..n], &waits, answer.second);
-    } else {
-        report::refusal(answer);
-    }
+    let answer = analysis::admit(sheet, &mut waits);
+    report::admit_text(text, sheet, &waits, answer)
+}
+
+// The text for an input.
+fn put_output(bytes: &[u8], text: &mut [u8]) -> usize
+    requires { ⌜ length (now text) ≡ longestAdmitText ⌝ }
+    ensures counts { λ r. ⌜ Counts r (now (text .exit)) ⌝ }
+    ensures text { λ r. ⌜ take r (now (text .exit)) ≡ output (now (bytes .entry)) ⌝ }
+{
+    let mut words = [0u32; SHEET_WORDS];
+    let n = input::load_sheet(bytes, &mut words);
+    put_answer(&words[..n], text)
+}
+
+// Reads the input, and writes its text in one call.
+fn main() {
+    let mut bytes = [0u8; SHEET_BYTES];
+    let got = read_sheet(&mut bytes);
+    let mut text = [0u8; TEXT_BYTES];
+    let n = put_output(&bytes[..got], &mut text);
+    io::write_all(STDOUT_FILENO, &text[..n]);
 }

@@ -1,20 +1,15 @@
 -- The least periods of those ranked above a stream, as a loop comes to them stream by stream. Assumes nothing.
-use Prim.Native.Nat.{ℕ, suc, pred, _+_, _-_, _*_, _≤_, _<_}
+use Prim.Native.Nat.{ℕ, suc, _+_, _-_, _≤_, _<_}
 use native.Mathlib.Nat.{sub-zero, sub-eq-zero-of-le}
 use native.Mathlib.Numerals.{add-one}
-use native.Mathlib.Omega.{arith}
 use mathlib.Core.Path.{_≡_, refl}
 use mathlib.Core.Bool.{true, false}
 use mathlib.Core.List.{List, [], _∷_}
-use Rattle.model.specs.Limits.{streamWords}
-use Rattle.model.specs.Sheet.{word, place, period}
-use Rattle.model.specs.Analysis.{Stream, streamOf, streamsFrom, outranks, above}
+use Rattle.model.specs.Sheet.{period}
+use Rattle.model.specs.declared.Stream.{Stream}
+use Rattle.model.specs.Analysis.{streamOf, streamsFrom, outranks, above}
 use Rattle.analysis.specs.Periods.{periodsOf}
-use Rattle.model.proofs.Refusals.{one-more}
-
--- The word of stream i + 1 in a body that stands at `at` is its least period.
-pub period-at : (s : List ℕ) (k at i : ℕ) → at ≡ place s k → word s (at + streamWords * i) ≡ period s k (i + 1)
-period-at s k at i placed = let last : pred (i + 1) ≡ i = omega arith in rw (placed, last) refl
+use Rattle.model.proofs.Sheet.Refusals.{one-more}
 
 module _ (s : List ℕ) (k : ℕ) (x : Stream) where
   -- The least periods of those above among node k's streams after stream i.
@@ -30,7 +25,7 @@ module _ (s : List ℕ) (k : ℕ) (x : Stream) where
       → i < count
       → outranks (streamOf s k (i + 1)) x ≡ true
       → left i count ≡ period s k (i + 1) ∷ left (i + 1) count
-  unfolding periodsOf above streamsFrom
+  unfolding above streamsFrom
   left-ranked i count inside ranked =
       rw (one-more i count inside, add-one i) (rw (rw (add-one i) at ranked) refl)
 
@@ -39,11 +34,11 @@ module _ (s : List ℕ) (k : ℕ) (x : Stream) where
       → i < count
       → outranks (streamOf s k (i + 1)) x ≡ false
       → left i count ≡ left (i + 1) count
-  unfolding periodsOf above streamsFrom
+  unfolding above streamsFrom
   left-unranked i count inside unranked =
       rw (one-more i count inside, add-one i) (rw (rw (add-one i) at unranked) refl)
 
   -- After the last stream none is left.
   pub left-none : (i count : ℕ) → count ≤ i → left i count ≡ []
-  unfolding periodsOf above streamsFrom
+  unfolding above streamsFrom
   left-none i count past = rw (sub-eq-zero-of-le past) refl

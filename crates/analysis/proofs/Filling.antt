@@ -7,7 +7,7 @@ use mathlib.Core.Path.{_≡_, sym, ap, _∙_}
 use mathlib.Core.List.{List, [], _∷_, _++_, append-nil, append-assoc}
 use lib.ListN.{length, getD, take, drop, set, length-drop}
 use lib.Seq.{length-take-le, take-length, take-suc, take-suc-set, take-set-le, take-append-le, take-append-add, append-snoc}
-use Rattle.model.proofs.Buffer.{write-next}
+use Rattle.model.proofs.Answers.Buffer.{write-next}
 
 -- The next value is stored after those that are filled in.
 pub fill-one : (xs : List ℕ) (n v : ℕ) {left left' whole : List ℕ}

@@ -3,19 +3,20 @@
 use Prim.Native.Nat.{ℕ, zero, suc, _+_, _≤_, _<_}
 use native.Mathlib.Nat.{le-refl, le-trans, le-of-suc-le-suc}
 use native.Mathlib.Omega.{arith}
-use mathlib.Core.Path.{_≡_, refl, ap}
+use mathlib.Core.Path.{_≡_}
 use mathlib.Core.Bool.{Bool, true, false, cond}
-use mathlib.Core.List.{List, [], _∷_}
-use lib.ListN.{length, getD}
-use Rattle.model.specs.Sheet.{nodes, messageTicks, place, streamCount, budget, period, deadline, cycle, OnSheet}
-use Rattle.model.specs.Analysis.{Stream, streamOf, streamsFrom, streamsOf, outranks, above}
-use Rattle.model.proofs.ValidSheet.{SheetFits}
-use Rattle.model.proofs.RunningSums.{streams-split, streams-grow, cycle-least}
-use Rattle.model.proofs.Interference.{streams-length, above-length}
+use mathlib.Core.List.{List, _∷_}
+use lib.ListN.{length, length-map, getD}
+use Rattle.model.specs.declared.Stream.{Stream}
+use Rattle.model.specs.Sheet.{nodes, place, streamCount, period, deadline, OnSheet}
+use Rattle.model.specs.Analysis.{streamOf, streamsFrom, streamsOf, outranks, above, timingOf}
+use Rattle.model.proofs.Sheet.ValidSheet.{SheetFits}
+use Rattle.model.proofs.Sheet.NodeSums.{cycle-least}
+use Rattle.model.proofs.Analysis.NodeStreams.{streams-length, above-length}
 use Rattle.analysis.specs.Periods.{periodsOf}
 use Rattle.analysis.specs.InRange.{Body, Divisors, Ranges}
 
--- The body is all there.
+-- The body of a node has no more streams than a node may have.
 pub body-there : (s : List ℕ) (k : ℕ) {at count : ℕ}
     → SheetFits s
     → 1 ≤ k
@@ -29,14 +30,7 @@ body-there s k fits low high placed counted =
       placed = placed;
       counted = counted;
       few = omega (arith, row .streamsTo);
-      there = omega (arith, row .placed, fits .whole, streams-split s k low, streams-grow s k (nodes s) high);
     }
-
--- There are as many periods as streams.
-periods-length : (ys : List Stream) → length (periodsOf ys) ≡ length ys
-unfolding periodsOf
-periods-length [] = refl
-periods-length (y ∷ ys) = ap suc (periods-length ys)
 
 -- No period is 0.
 abbrev Positive : List ℕ → Type 0
@@ -51,7 +45,7 @@ module _ (s : List ℕ) (k : ℕ) (x : Stream) where
   above-positive : (j count : ℕ)
       → ((i : ℕ) → j ≤ i → i < j + count → 1 ≤ period s k i)
       → Positive (periodsOf (above x (streamsFrom s k j count)))
-  unfolding periodsOf above streamsFrom
+  unfolding above streamsFrom
   above-positive j zero each = λ i inside. absurd (omega arith)
   above-positive j (suc count) each =
       go (outranks (streamOf s k j) x) (above x (streamsFrom s k (suc j) count)) (above-positive (suc j) count (λ i low high. each i (omega arith) (omega arith)))
@@ -67,7 +61,7 @@ module _ (s : List ℕ) (k : ℕ) (x : Stream) where
         few =
             omega (
               arith,
-              periods-length (above x (streamsOf s k)),
+              length-map (above x (streamsOf s k)) (λ (y : Stream). y .period),
               above-length x (streamsOf s k),
               streams-length s k 1 (streamCount s k),
               fits .rows k low high .streamsTo,
@@ -75,16 +69,13 @@ module _ (s : List ℕ) (k : ℕ) (x : Stream) where
         positive = above-positive 1 (streamCount s k) (λ i from to. fits .streams k i (record { nodeFrom = low; nodeTo = high; streamFrom = from; streamTo = omega arith }) .periodFrom);
       }
 
--- The cycle, the budget, the ticks of a message and the deadline are in range.
-pub stream-ranges : (s : List ℕ) (k j : ℕ)
-    → SheetFits s
-    → OnSheet s k j
-    → Ranges (cycle s) (budget s k) (messageTicks s) (deadline s k j)
+-- The timing of a node and the deadline of a stream are in range.
+pub stream-ranges : (s : List ℕ) (k j : ℕ) → SheetFits s → OnSheet s k j → Ranges (timingOf s k) (deadline s k j)
 stream-ranges s k j fits on =
     let stream = fits .streams k j on in
     record {
       cycleFrom = cycle-least s fits;
       budgetTo = fits .rows k (on .nodeFrom) (on .nodeTo) .budgetTo;
-      ticksTo = fits .header .messageTo;
+      messageTo = fits .header .messageTo;
       deadlineTo = le-trans (stream .deadlineTo) (stream .periodTo);
     }

@@ -4,15 +4,16 @@ use native.Mathlib.Nat.{suc-mul, suc-pred-eq-of-pos, one-le-mul, mul-le-mul}
 use native.Mathlib.Omega.{arith}
 use mathlib.Core.Path.{_≡_, refl, sym, ap, _∙_}
 use mathlib.Core.List.{List}
+use Rattle.model.specs.declared.Timing.{Timing}
 use Rattle.model.specs.Limits.{maxBudget, maxSlotTicks}
 use Rattle.model.specs.Analysis.{waitFor}
-use Rattle.analysis.specs.Periods.{streamsWith}
+use Rattle.analysis.specs.Periods.{interferenceBy}
 use Rattle.analysis.specs.InRange.{Ranges, FoundJ}
 
-module _ {periods : List ℕ} {cycle m ticks deadline J h before : ℕ}
-    (ranges : Ranges cycle m ticks deadline)
-    (at : FoundJ periods cycle m deadline J h)
-    (turns : before ≡ pred J * m)
+module _ {periods : List ℕ} {t : Timing} {deadline J h before : ℕ}
+    (ranges : Ranges t deadline)
+    (at : FoundJ periods t deadline J h)
+    (turns : before ≡ pred J * t .budget)
   where
     -- The places of the turns before are all taken.
     pub place-least : before ≤ h
@@ -21,18 +22,18 @@ module _ {periods : List ℕ} {cycle m ticks deadline J h before : ℕ}
     -- The place in the turn is one of the budget's.
     pub place-most : h - before < maxBudget
     place-most =
-        let last : J * m ≡ pred J * m + m = ap (λ n. n * m) (sym (suc-pred-eq-of-pos (at .fromOne))) ∙ suc-mul (pred J) m in
+        let last : J * t .budget ≡ pred J * t .budget + t .budget = ap (λ n. n * t .budget) (sym (suc-pred-eq-of-pos (at .fromOne))) ∙ suc-mul (pred J) (t .budget) in
         omega (arith, at .enough, at .filled, ranges .budgetTo)
 
     -- J cycles are a tick at least.
-    pub window-least : 1 ≤ J * cycle
+    pub window-least : 1 ≤ J * t .cycle
     window-least = one-le-mul (at .fromOne) (omega (arith, ranges .cycleFrom))
 
     -- The messages taken before in the turn are a budget's at most.
-    pub ticks-most : (h - before) * ticks ≤ 160_000
-    ticks-most = mul-le-mul {n₂ = maxBudget} {m₂ = maxSlotTicks} (omega (arith, place-most)) (ranges .ticksTo)
+    pub ticks-most : (h - before) * t .message ≤ 160_000
+    ticks-most = mul-le-mul {n₂ = maxBudget} {m₂ = maxSlotTicks} (omega (arith, place-most)) (ranges .messageTo)
 
     -- The sum is the definition's.
-    pub wait-exact : J * cycle - 1 + (h - before) * ticks ≡ waitFor (streamsWith periods) cycle m ticks J
+    pub wait-exact : J * t .cycle - 1 + (h - before) * t .message ≡ waitFor (interferenceBy periods) t J
     unfolding waitFor
     wait-exact = rw (turns, at .counted) refl

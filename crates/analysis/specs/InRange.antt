@@ -4,34 +4,33 @@ use Prim.Native.Nat.{ℕ, pred, _+_, _-_, _*_, _≤_, _<_}
 use mathlib.Core.Path.{_≡_}
 use mathlib.Core.List.{List}
 use lib.ListN.{length, getD}
-use Rattle.model.specs.Limits.{streamWords, maxStreams, maxBudget, maxSlotTicks, maxTime}
+use Rattle.model.specs.declared.Timing.{Timing}
+use Rattle.model.specs.Limits.{maxStreams, maxBudget, maxSlotTicks, maxTime}
 use Rattle.model.specs.Sheet.{place, streamCount}
-use Rattle.model.specs.Analysis.{interference}
-use Rattle.analysis.specs.Periods.{streamsWith}
+use Rattle.analysis.specs.Periods.{interferenceBy}
 
--- The body of node k stands at `at`, and its streams are `count`, as many as are on the sheet.
-pub record Body (s : List ℕ) (k at count : ℕ) : Type 0 where
-  pub placed : at ≡ place s k
+-- The body of node k stands at `body`, and its streams are `count`, not more than a node may have.
+pub record Body (s : List ℕ) (k body count : ℕ) : Type 0 where
+  pub placed : body ≡ place s k
   pub counted : count ≡ streamCount s k
   pub few : count ≤ maxStreams
-  pub there : at + streamWords * count ≤ length s
 
 -- Least periods as a node can have them: not too many, and none is 0.
 pub record Divisors (periods : List ℕ) : Type 0 where
   pub few : length periods ≤ maxStreams
   pub positive : (i : ℕ) → i < length periods → 1 ≤ getD periods i 0
 
--- A cycle, a budget, the ticks of a message and a deadline as a valid sheet has them.
-pub record Ranges (cycle m ticks deadline : ℕ) : Type 0 where
-  pub cycleFrom : 2 ≤ cycle
-  pub budgetTo : m ≤ maxBudget
-  pub ticksTo : ticks ≤ maxSlotTicks
+-- A timing and a deadline as a valid sheet has them.
+pub record Ranges (t : Timing) (deadline : ℕ) : Type 0 where
+  pub cycleFrom : 2 ≤ t .cycle
+  pub budgetTo : t .budget ≤ maxBudget
+  pub messageTo : t .message ≤ maxSlotTicks
   pub deadlineTo : deadline ≤ maxTime
 
 -- The search has come to J: h is the interference in J cycles, which J turns have places beyond, and J - 1 turns had not.
-pub record FoundJ (periods : List ℕ) (cycle m deadline J h : ℕ) : Type 0 where
+pub record FoundJ (periods : List ℕ) (t : Timing) (deadline J h : ℕ) : Type 0 where
   pub fromOne : 1 ≤ J
-  pub cyclesTo : J * cycle ≤ deadline + 1
-  pub counted : h ≡ interference (streamsWith periods) (J * cycle - 1)
-  pub enough : h < J * m
-  pub filled : pred J * m ≤ h
+  pub cyclesTo : J * t .cycle ≤ deadline + 1
+  pub counted : h ≡ interferenceBy periods (J * t .cycle - 1)
+  pub enough : h < J * t .budget
+  pub filled : pred J * t .budget ≤ h

@@ -80,6 +80,30 @@ fn copy_in(values: &[u32], room: &mut [u32])
     }
 }
 
+// The first answer if it refuses, and success with its two numbers otherwise.
+fn or_success(refusal: Answer, second: u32, third: u32) -> Answer
+    ensures { λ r. ⌜ r ≡ (refusal orElse success second third) ⌝ }
+{
+    if refusal.number != 0 {
+        return refusal;
+    }
+    Answer {
+        number: 0,
+        second,
+        third,
+    }
+}
+
+// The values in the room's first words where the answer is success; a refusal writes nothing.
+fn write_waits(answer: Answer, values: &[u32], room: &mut [u32])
+    requires { ⌜ length (now values) ≤ length (now room) ⌝ }
+    ensures { λ _. ⌜ now (room .exit) ≡ bufferAfter answer (now (values .entry)) (now (room .entry)) ⌝ }
+{
+    if answer.number == 0 {
+        copy_in(values, room);
+    }
+}
+
 // Refusal 7 of a valid sheet, or success with its number of streams and C. The listed waits go into the room's first words once
 // the last stream is judged.
 pub fn judge_sheet(sheet: &[u32], total: usize, room: &mut [u32]) -> Answer
@@ -90,13 +114,7 @@ pub fn judge_sheet(sheet: &[u32], total: usize, room: &mut [u32]) -> Answer
     let cycle = cycle_of(sheet);
     let mut waits = [0u32; 256];
     let late = judge_nodes(sheet, word_at(sheet, 0), cycle, &mut waits);
-    if late.number != 0 {
-        return late;
-    }
-    copy_in(&waits[..total], room);
-    Answer {
-        number: 0,
-        second: total as u32,
-        third: cycle,
-    }
+    let answer = or_success(late, total as u32, cycle);
+    write_waits(answer, &waits[..total], room);
+    answer
 }

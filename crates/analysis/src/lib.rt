@@ -1,10 +1,12 @@
 // The analysis: the listed wait of one stream, and the admission of a whole sheet.
 ghost use mathlib.Core.Path.{_≡_};
 ghost use mathlib.Core.Bool.{_||_};
+ghost use Prim.Native.Nat.{_≤_};
 ghost use lib.ListN.{length};
 ghost use Rattle.model.specs.Refusal.{outside};
-ghost use Rattle.model.specs.Sheet.{nodes, streamCount};
+ghost use Rattle.model.specs.Sheet.{nodes, streamCount, totalStreams, OnSheet, Valid};
 ghost use Rattle.model.specs.Answers.{verdictAnswer, oneStreamAnswer, admitAnswer, admitBuffer};
+ghost use Rattle.model.specs.Demand.{Judged, AllJudged};
 use cycle::cycle_of;
 use judge::judge_sheet;
 use layout::is_outside;
@@ -18,7 +20,7 @@ use sheet::check_sheet;
 use wait::verdict_on;
 
 mod cycle; // cycle.rt: the full cycle
-mod rank; // rank.rt: who is ranked above
+mod higher; // higher.rt: who is ranked above a stream
 mod wait; // wait.rt: the search for J, and the verdict on one stream
 mod judge; // judge.rt: the verdicts on all streams
 
@@ -50,9 +52,10 @@ fn answer_of(k: u32, j: u32, verdict: Verdict) -> Answer
     }
 }
 
-// "One stream": its listed wait and J. Refusals 1 to 5, 8, 7.
+// "One stream": its listed wait and J. Refusals 1 to 5, 8, 7. For a stream of a valid sheet, demand 2 holds of what it answers.
 pub fn one_stream(sheet: &[u32], node: u32, stream: u32) -> Answer
-    ensures { λ r. ⌜ r ≡ oneStreamAnswer (now (sheet .entry)) node stream ⌝ }
+    ensures answer { λ r. ⌜ r ≡ oneStreamAnswer (now (sheet .entry)) node stream ⌝ }
+    ensures demand { λ r. ⌜ (Valid (now (sheet .entry)) → OnSheet (now (sheet .entry)) node stream → Judged (now (sheet .entry)) node stream r) ⌝ }
 {
     let fault = check_sheet(sheet);
     if fault.number != 0 {
@@ -69,10 +72,12 @@ pub fn one_stream(sheet: &[u32], node: u32, stream: u32) -> Answer
     )
 }
 
-// "Admit": number of streams and C; the listed waits in the room's first words. Refusals 1 to 5, 6, 7.
+// "Admit": number of streams and C; the listed waits in the room's first words. Refusals 1 to 5, 6, 7. For a valid sheet, with room
+// enough, demand 2 holds of what it answers and writes.
 pub fn admit(sheet: &[u32], room: &mut [u32]) -> Answer
     ensures answer { λ r. ⌜ r ≡ admitAnswer (now (sheet .entry)) (length (now (room .entry))) ⌝ }
     ensures buffer { λ r. ⌜ now (room .exit) ≡ admitBuffer (now (sheet .entry)) (now (room .entry)) ⌝ }
+    ensures demand { λ r. ⌜ (Valid (now (sheet .entry)) → totalStreams (now (sheet .entry)) ≤ length (now (room .entry)) → AllJudged (now (sheet .entry)) r (now (room .exit))) ⌝ }
 {
     let fault = check_sheet(sheet);
     if fault.number != 0 {

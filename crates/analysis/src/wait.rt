@@ -3,13 +3,14 @@ ghost use mathlib.Core.Path.{_≡_};
 ghost use Prim.Native.Nat.{_^_, _≤_, _<_};
 ghost use Rattle.model.specs.Limits.{maxTime};
 ghost use Rattle.model.specs.Sheet.{cycle as fullCycle, OnSheet, Valid};
-ghost use Rattle.model.specs.Analysis.{interference, verdictAt, search, triesWorth, verdictOf};
-ghost use Rattle.analysis.specs.Periods.{streamsWith};
+ghost use Rattle.model.specs.Analysis.{mostReleases, verdictAt, verdict, triesWorth, timingOf, verdictOf};
+ghost use Rattle.analysis.specs.Periods.{interferenceBy};
 ghost use Rattle.analysis.specs.InRange.{Divisors, Ranges, FoundJ};
-use crate::rank::higher_periods;
+use crate::higher::higher_periods;
 use layout::budget_of;
-use layout::deadline_of;
+use layout::stream_of;
 use layout::word_at;
+use model::Timing;
 use model::Verdict;
 
 // A word as a longer number.
@@ -19,69 +20,82 @@ fn long(x: u32) -> u64
     x as u64
 }
 
+// The most messages that a stream of that least period can release in a window of w + 1 ticks.
+fn most_releases(period: u32, w: u32) -> u32
+    requires { ⌜ (1 ≤ period) × (w ≤ maxTime) ⌝ }
+    ensures { λ r. ⌜ r ≡ mostReleases period w ⌝ }
+{
+    1 + w / period
+}
+
 // Interference, "H", of streams with these least periods, in a window of w + 1 ticks. It passes 32 bits, and no term of it does.
 fn interference_of(periods: &[u32], w: u32) -> u64
     requires { ⌜ Divisors (now periods) × (w ≤ maxTime) ⌝ }
-    ensures { λ r. ⌜ r ≡ interference (streamsWith (now (periods .entry))) w ⌝ }
+    ensures { λ r. ⌜ r ≡ interferenceBy (now (periods .entry)) w ⌝ }
 {
     let mut sum: u64 = 0;
     let mut i: usize = 0;
     while i < periods.len() {
-        sum += long(1 + w / periods[i]);
+        sum += long(most_releases(periods[i], w));
         i += 1;
     }
     sum
 }
 
 // How many J are worth a try.
-fn tries_worth(cycle: u32, ticks: u32, deadline: u32) -> u32
-    requires { ⌜ (0 < cycle) × (deadline ≤ maxTime) ⌝ }
-    ensures { λ r. ⌜ r ≡ triesWorth cycle ticks deadline ⌝ }
+fn tries_worth(timing: Timing, deadline: u32) -> u32
+    requires { ⌜ (0 < timing .cycle) × (deadline ≤ maxTime) ⌝ }
+    ensures { λ r. ⌜ r ≡ triesWorth timing deadline ⌝ }
 {
-    if deadline + 1 < ticks {
+    if deadline + 1 < timing.message {
         0
     } else {
-        (deadline + 1 - ticks) / cycle
+        (deadline + 1 - timing.message) / timing.cycle
     }
 }
 
-// The verdict at J, "cycles", where h is the interference in so many.
-fn verdict_at(
-    periods: &[u32],
-    h: u64,
-    cycles: u32,
-    cycle: u32,
-    budget: u32,
-    ticks: u32,
-    deadline: u32,
-) -> Verdict
-    requires { ⌜ Ranges cycle budget ticks deadline × FoundJ (now periods) cycle budget deadline cycles h ⌝ }
-    ensures { λ r. ⌜ r ≡ verdictAt (streamsWith (now (periods .entry))) cycle budget ticks deadline cycles ⌝ }
+// The verdict at J, "cycles", where h is the interference in so many: the late test.
+fn verdict_at(periods: &[u32], h: u64, cycles: u32, timing: Timing, deadline: u32) -> Verdict
+    requires { ⌜ Ranges timing deadline × FoundJ (now periods) timing deadline cycles h ⌝ }
+    ensures { λ r. ⌜ r ≡ verdictAt (interferenceBy (now (periods .entry))) timing deadline cycles ⌝ }
 {
-    let place = h - long(cycles - 1) * long(budget);
-    let wait = cycles * cycle - 1 + place as u32 * ticks;
-    if deadline < wait + ticks {
+    let place = h - long(cycles - 1) * long(timing.budget);
+    let wait = cycles * timing.cycle - 1 + place as u32 * timing.message;
+    if deadline < wait + timing.message {
         Verdict::Late
     } else {
         Verdict::Listed { wait, cycles }
     }
 }
 
-// The search for J: 1, 2 and so on, as long as a wait of so many cycles can meet the deadline.
-fn search_from_one(periods: &[u32], cycle: u32, budget: u32, ticks: u32, deadline: u32) -> Verdict
-    requires { ⌜ Divisors (now periods) × Ranges cycle budget ticks deadline ⌝ }
-    ensures { λ r. ⌜ r ≡ search (streamsWith (now (periods .entry))) cycle budget ticks deadline (triesWorth cycle ticks deadline) 1 ⌝ }
+// The search for J: 1, 2 and so on, as long as so many cycles can meet the deadline.
+fn search_from_one(periods: &[u32], timing: Timing, deadline: u32) -> Verdict
+    requires { ⌜ Divisors (now periods) × Ranges timing deadline ⌝ }
+    ensures { λ r. ⌜ r ≡ verdict (interferenceBy (now (periods .entry))) timing deadline ⌝ }
 {
-    let tries = tries_worth(cycle, ticks, deadline);
+    let tries = tries_worth(timing, deadline);
     let mut cycles: u32 = 1;
     while cycles <= tries {
-        let h = interference_of(periods, cycles * cycle - 1);
-        if h < long(cycles) * long(budget) {
-            return verdict_at(periods, h, cycles, cycle, budget, ticks, deadline);
+        let h = interference_of(periods, cycles * timing.cycle - 1);
+        if h < long(cycles) * long(timing.budget) {
+            return verdict_at(periods, h, cycles, timing, deadline);
         }
         cycles += 1;
     }
     Verdict::Late
+}
+
+// The timing of node k, with the sheet's full cycle.
+fn timing_of(sheet: &[u32], k: u32, cycle: u32) -> Timing
+    requires { ⌜ cycle ≡ fullCycle (now sheet) ⌝ }
+    ensures { λ r. ⌜ r ≡ timingOf (now (sheet .entry)) k ⌝ }
+{
+    Timing {
+        cycle,
+        budget: budget_of(sheet, k),
+        message: word_at(sheet, 1),
+        slot: word_at(sheet, 2),
+    }
 }
 
 // The verdict on stream j of node k, with the sheet's full cycle.
@@ -89,13 +103,9 @@ pub fn verdict_on(sheet: &[u32], k: u32, j: u32, cycle: u32) -> Verdict
     requires { ⌜ Valid (now sheet) × OnSheet (now sheet) k j × (cycle ≡ fullCycle (now sheet)) ⌝ }
     ensures { λ r. ⌜ r ≡ verdictOf (now (sheet .entry)) k j ⌝ }
 {
+    let stream = stream_of(sheet, k, j);
+    let timing = timing_of(sheet, k, cycle);
     let mut higher = [0u32; 16];
-    let n = higher_periods(sheet, k, j, &mut higher);
-    search_from_one(
-        &higher[..n],
-        cycle,
-        budget_of(sheet, k),
-        word_at(sheet, 1),
-        deadline_of(sheet, k, j),
-    )
+    let n = higher_periods(sheet, k, stream, &mut higher);
+    search_from_one(&higher[..n], timing, stream.deadline)
 }

@@ -13,8 +13,8 @@ use Rattle.model.specs.Refusal.{refuse, refuseIf, outside}
 use Rattle.model.specs.Sheet.{totalStreams}
 use Rattle.model.specs.Protocol.{releases, releaseTick, releaseStream}
 use Rattle.model.specs.Answers.{tickBefore, releaseRefusal, logRefusal}
-use Rattle.model.proofs.Refusals.{orElse-both, refuseIf-none, first-none}
-use Rattle.model.proofs.Tests.{or-neither}
+use Rattle.model.proofs.Sheet.Refusals.{orElse-both, refuseIf-none, first-none}
+use Rattle.theory.proofs.Tests.{or-neither}
 use Rattle.bus.specs.Queue.{Rising}
 
 -- A release with no fault is not before the one before it.

@@ -10,11 +10,11 @@ use Rattle.model.specs.declared.Bus.{Bus}
 use Rattle.model.specs.Refusal.{success, _orElse_}
 use Rattle.model.specs.Protocol.{releases, replayed}
 use Rattle.model.specs.Answers.{bufferAfter, replayAnswer, replayBuffer}
-use Rattle.model.proofs.Refusals.{orElse-on, orElse-stop, orElse-assoc}
-use Rattle.model.proofs.ValidSheet.{valid-fits}
-use Rattle.model.proofs.NotRefused.{ReplayAccepted, replay-accepted, replay-answers}
-use Rattle.model.proofs.Run.{replayed-length}
-use Rattle.model.proofs.ReplayDemand.{replay-demand}
+use Rattle.model.proofs.Sheet.Refusals.{orElse-on, orElse-stop, orElse-assoc}
+use Rattle.model.proofs.Sheet.ValidSheet.{valid-fits}
+use Rattle.model.proofs.Answers.NotRefused.{ReplayAccepted, replay-accepted, replay-answers}
+use Rattle.model.proofs.Protocol.Run.{replayed-length}
+use Rattle.model.proofs.Demand.ReplayDemand.{replay-demand}
 use Rattle.model.specs.Demand.{WholeReplay}
 use Rattle.log.specs.Replay.{replayRefusal}
 

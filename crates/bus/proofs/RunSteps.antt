@@ -13,13 +13,13 @@ use Rattle.model.specs.declared.Bus.{Bus}
 use Rattle.model.specs.Limits.{notBegun}
 use Rattle.model.specs.Sheet.{slotTicks, budget, Valid}
 use Rattle.model.specs.Protocol.{releases, serveTurn, nextBus, State, turn, start, run, replayed}
-use Rattle.model.proofs.ValidSheet.{valid-fits}
-use Rattle.model.proofs.Waiting.{waiting-begun}
-use Rattle.model.proofs.Serve.{serving, serve-length, serve-kept}
-use Rattle.model.proofs.Clock.{next-range}
-use Rattle.model.proofs.Run.{run-done, run-fuel, run-next}
-use Rattle.model.proofs.LongerBuffer.{front-served}
-use Rattle.model.proofs.Idle.{Quiet, run-idle, silent-before}
+use Rattle.model.proofs.Sheet.ValidSheet.{valid-fits}
+use Rattle.model.proofs.Protocol.Waiting.{waiting-begun}
+use Rattle.model.proofs.Protocol.Turn.{serve-length, serve-kept}
+use Rattle.model.proofs.Protocol.Clock.{next-range}
+use Rattle.model.proofs.Protocol.Run.{run-done, run-fuel, run-next}
+use Rattle.model.proofs.Protocol.LongerBuffer.{front-served}
+use Rattle.model.proofs.Protocol.Idle.{Quiet, run-idle, silent-before}
 use Rattle.model.specs.Idle.{idleBus, silentTurns}
 use Rattle.bus.specs.Queue.{ValidNode, ReleasedBefore, Arrived, BegunBefore, NextEvent}
 
@@ -89,18 +89,17 @@ module _ (s log : List ℕ) (horizon : ℕ) where
       let m : ℕ = budget s (bus .node) in
       let header = valid-fits s (here .node .valid) .header in
       let served = front-served s log (bus .node) (bus .tick) m room fits in
-      let account = serving s log (bus .node) (bus .tick) m 0 room in
       let range = next-range s (bus .node) (here .node .from) (here .node .upTo) in
       record {
         reached = rw (served .taken, served .front) (sym (run-next s log horizon (header .slotFrom) (stateIn log bus room) early) ∙ here .reached);
         rest = served .rest ∙ here .rest;
-        sameLength = serve-length account ∙ here .sameLength;
+        sameLength = serve-length s log (bus .node) (bus .tick) m room ∙ here .sameLength;
         node = record { valid = here .node .valid; from = range .0; upTo = range .1 };
         turnsTo = omega (arith, here .turnsTo, header .slotFrom);
         ordered = window .ordered;
         inLog = window .arrived .inLog;
         begun = λ i below unbegun.
-            let kept = serve-kept account i (λ _. waiting-begun s log (bus .node) (bus .tick) room i (window .begun i below)) in
+            let kept = serve-kept s log (bus .node) (bus .tick) m room i (λ _. waiting-begun s log (bus .node) (bus .tick) room i (window .begun i below)) in
             window .begun i below (sym kept ∙ unbegun);
         released = λ i below. omega (arith, window .arrived .released i below);
       }

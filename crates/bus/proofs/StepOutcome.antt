@@ -10,8 +10,8 @@ use Rattle.model.specs.declared.Bus.{Bus}
 use Rattle.model.specs.Refusal.{success}
 use Rattle.model.specs.Protocol.{serveTurn, nextBus}
 use Rattle.model.specs.Answers.{stepRefusal, stepAnswer, stepBus, stepBuffer}
-use Rattle.model.proofs.Refusals.{orElse-on, orElse-stop}
-use Rattle.model.proofs.NotRefused.{StepAccepted}
+use Rattle.model.proofs.Sheet.Refusals.{orElse-on, orElse-stop}
+use Rattle.model.proofs.Answers.NotRefused.{StepAccepted}
 use Rattle.bus.specs.Queue.{ValidNode}
 
 -- A step that is not refused is of a node of the sheet.

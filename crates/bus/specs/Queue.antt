@@ -1,9 +1,10 @@
 -- What a turn is run on, and how a scan of the log finds the first in a node's queue. Assumes nothing.
-use Prim.Native.Nat.{ℕ, suc, _+_, _-_, _*_, _^_, _≤_, _<_}
+use Prim.Native.Nat.{ℕ, suc, _≤_, _<_}
 use mathlib.Core.Path.{_≡_}
 use mathlib.Core.List.{List}
 use Rattle.model.specs.Limits.{notBegun}
-use Rattle.model.specs.Sheet.{word, nodes, place, period, streamsBefore, streamsUpTo, Valid}
+use Rattle.model.specs.declared.Stream.{Stream}
+use Rattle.model.specs.Sheet.{word, nodes, place, streamsBefore, streamsUpTo, Valid}
 use Rattle.model.specs.Protocol.{releases, releaseTick}
 use Rattle.bus.specs.declared.queue.Streams.{Streams}
 
@@ -46,6 +47,6 @@ pub record NextEvent (log : List ℕ) (horizon tick to until : ℕ) : Type 0 whe
 abbrev pub streamsAs : List ℕ → ℕ → Streams
 streamsAs s k = record { before = streamsBefore s k; last = streamsUpTo s k; body = place s k }
 
--- Rank as one number: of two streams of node k, by running number, the one with the lower key is ranked above.
-unfoldable pub rankKey : List ℕ → ℕ → ℕ → ℕ
-rankKey s k r = period s k (r - streamsBefore s k) * 2 ^ 32 + r
+-- A stream that each stream of a valid sheet is ranked above.
+abbrev pub lowest : Stream
+lowest = record { number = 4_294_967_295; period = 4_294_967_295; deadline = 4_294_967_295 }

@@ -1,16 +1,21 @@
 // A node's queue: who is the first of the releases that wait.
 ghost use mathlib.Core.Path.{_≡_};
-ghost use Prim.Native.Nat.{_+_, _-_, _*_, _^_, _≤_, _<_};
+ghost use Prim.Native.Nat.{pred, _+_, _-_, _*_, _^_, _≤_, _<_};
 ghost use lib.ListN.{length};
+ghost use Rattle.theory.specs.Queue.{first};
+ghost use Rattle.model.specs.Limits.{streamWords, notBegun};
 ghost use Rattle.model.specs.Sheet.{word};
-ghost use Rattle.model.specs.Protocol.{releases, firstWaiting};
+ghost use Rattle.model.specs.Analysis.{streamIn};
+ghost use Rattle.model.specs.Protocol.{releases, queueOf};
 ghost use Rattle.bus.specs.Queue.{ValidNode, Rising, ReleasedBefore, Arrived, BegunFrom, BegunBefore, streamsAs};
+use model::Stream;
+use rank::is_above;
 
 // The streams of a node: their running numbers are above `before` and up to `last`, and their words stand from `body` on.
 pub struct Streams {
     pub before: usize,
     pub last: usize,
-    pub body: usize,
+    pub body: u32,
 }
 
 // The streams of a node.
@@ -18,8 +23,8 @@ fn streams_of(sheet: &[u32], node: u32) -> Streams
     requires { ⌜ ValidNode (now sheet) node ⌝ }
     ensures { λ r. ⌜ r ≡ streamsAs (now (sheet .entry)) node ⌝ }
 {
-    let body = layout::wide(layout::place_of(sheet, node));
-    let before = (body - layout::contents_words(sheet)) / 2;
+    let body = layout::place_of(sheet, node);
+    let before = layout::streams_in(layout::wide(body) - layout::contents_words(sheet));
     let count = layout::wide(layout::stream_count(sheet, node));
     Streams {
         before,
@@ -28,12 +33,13 @@ fn streams_of(sheet: &[u32], node: u32) -> Streams
     }
 }
 
-// The rank of the stream with running number r, as one number: the least period, then r.
-fn rank_key(sheet: &[u32], body: usize, before: usize, r: usize) -> u64
-    requires { ⌜ (before < r) × (r < 2 ^ 32) × (body + 2 * (r - before - 1) < length (now sheet)) ⌝ }
-    ensures { λ key. ⌜ key ≡ word (now (sheet .entry)) (body + 2 * (r - before - 1)) * 2 ^ 32 + r ⌝ }
+// The stream with running number r of a node whose streams have those above `before` and stand from `body` on.
+fn own_stream(sheet: &[u32], body: u32, before: usize, r: usize) -> Stream
+    requires { ⌜ (before < r) × (r < 2 ^ 32) ⌝ }
+    ensures { λ x. ⌜ x ≡ streamIn (now (sheet .entry)) (body + streamWords * pred (r - before)) (r - before) ⌝ }
 {
-    sheet[body + 2 * (r - before - 1)] as u64 * 4294967296 + r as u64
+    let number = (r - before) as u32;
+    layout::stream_in(sheet, layout::place_in_body(body, number), number)
 }
 
 // How many of the releases from `from` to before `to` have not begun. Their word is the largest: divided by it, they alone give 1.
@@ -77,14 +83,18 @@ pub fn first_waiting(
 ) -> usize
     requires { ⌜ ValidNode (now sheet) node × (releases (now log) ≤ length (now room)) ⌝ }
     requires { ⌜ Arrived (now log) tick to ⌝ }
-    ensures { λ r. ⌜ r ≡ firstWaiting (now (sheet .entry)) (now (log .entry)) node tick (now (room .entry)) ⌝ }
+    ensures { λ r. ⌜ r ≡ first (queueOf (now (sheet .entry)) (now (log .entry)) node tick (now (room .entry))) ⌝ }
 {
     let streams = streams_of(sheet, node);
     let before = streams.before;
     let last = streams.last;
     let body = streams.body;
     let mut first = log.len() / 2;
-    let mut first_key: u64 = 18446744073709551615;
+    let mut best = Stream {
+        number: 4294967295,
+        period: 4294967295,
+        deadline: 4294967295,
+    };
     let mut i = begun_blocks(room, to);
     while i < to {
         let at = i;
@@ -92,19 +102,18 @@ pub fn first_waiting(
         if room[at] != 4294967295 {
             continue;
         }
-        let stream = layout::wide(log[2 * at + 1]);
-        if stream <= before {
+        let r = layout::wide(log[2 * at + 1]);
+        if r <= before {
             continue;
         }
-        if last < stream {
+        if last < r {
             continue;
         }
-        let key = rank_key(sheet, body, before, stream);
-        if first_key <= key {
-            continue;
+        let stream = own_stream(sheet, body, before, r);
+        if is_above(stream, best) {
+            first = at;
+            best = stream;
         }
-        first = at;
-        first_key = key;
     }
     first
 }
@@ -126,10 +135,12 @@ pub fn arrived_by(log: &[u32], tick: u32, known: usize) -> usize
     i
 }
 
-// How many of the first `to` releases have begun before the first that has not, where the first `known` have.
+// How many of the first `to` releases have begun before the first that has not, where the first `known` have: those before have begun,
+// and the one there, if it is one of them, has not.
 pub fn begun_before(room: &[u32], known: usize, to: usize) -> usize
     requires { ⌜ (known ≤ to) × (to ≤ length (now room)) × BegunBefore (now room) known ⌝ }
-    ensures { λ r. ⌜ (r ≤ to) × BegunBefore (now (room .entry)) r ⌝ }
+    ensures begun { λ r. ⌜ (r ≤ to) × BegunBefore (now (room .entry)) r ⌝ }
+    ensures first { λ r. ⌜ (r < to → word (now (room .entry)) r ≡ notBegun) ⌝ }
 {
     let mut i = known;
     while i < to {

@@ -1,20 +1,53 @@
--- P1 to P12: the definitions answer every case as document 01 states it. Both sides compute to the same list.
+-- P1 to P12, and the further cases: the definitions answer every one as stated. Both sides compute to the same.
 -- Assumes nothing.
 use mathlib.Core.Path.{refl}
+use Rattle.theory.specs.Sum.{sum, upTo}
+use Rattle.theory.specs.Queue.{firstIn, first, firstOnes}
 use Rattle.model.specs.Refusal.{refuseIf, _orElse_, firstOf, outside}
-use Rattle.model.specs.Sheet.{streamsUpTo, budgetsUpTo, cycle, rowWrong, rowRefusal, streamWrong, streamRefusal, bodyRefusal, headerRefusal, sheetRefusal}
-use Rattle.model.specs.Analysis.{streamsFrom, outranks, above, interference, waitFor, verdictAt, search, verdict, verdictOf}
-use Rattle.model.specs.Protocol.{ofNode, queuedBefore, waiting, firstIn, firstWaiting, serve, nextNode, nextBus, turn, start, run, replayed}
-use Rattle.model.specs.Answers.{roomRefusal, tickBefore, releaseRefusal, logRefusal, horizonRefusal, lateRefusal, nodeLateRefusal, waitWord, waitsFrom, nodeWaitsFrom, bufferAfter, admitAnswer, admitBuffer, replayAnswer, replayBuffer}
-use Rattle.cases.specs.Cases.{AllHold, cases, gives, outcomeOf, lent, sheetA, sheetA6, sheetP7, logP9, logP11}
+use Rattle.model.specs.Sheet.{cycle, rowWrong, rowRefusal, streamWrong, streamRefusal, bodyRefusal, headerRefusal, sheetRefusal}
+use Rattle.model.specs.Analysis.{streamsFrom, outranks, above, mostReleases, interference, waitFor, lateAt, verdictAt, search, verdict, verdictOf}
+use Rattle.model.specs.Protocol.{ofNode, queuedBefore, waiting, beginsFrom, serve, nextNode, nextBus, turn, start, run, replayed}
+use Rattle.model.specs.Answers.{roomRefusal, tickBefore, releaseRefusal, logRefusal, horizonRefusal, lateRefusal, nodeLateRefusal, waitWord, waitsFrom, nodeWaitsFrom, bufferAfter, unknownRefusal, verdictAnswer, recordRefusal, oneStreamAnswer, admitAnswer, admitBuffer, replayAnswer, replayBuffer, stepRefusal, stepAnswer, stepBus, stepBuffer}
+use Rattle.model.specs.Bench.{sheetA, sheetA6, sheetP7, logP9, logP11}
+use Rattle.cases.specs.Cases.{AllHold, cases, gives, outcomeOf, lent, Further, sheetEqual, madeUpBus, madeUpRoom}
 
 pub all-hold : AllHold
 unfolding
+    sum upTo firstIn first firstOnes
     refuseIf _orElse_ firstOf outside
-    streamsUpTo budgetsUpTo cycle rowWrong rowRefusal streamWrong streamRefusal bodyRefusal headerRefusal sheetRefusal
-    streamsFrom outranks above interference waitFor verdictAt search verdict verdictOf
-    ofNode queuedBefore waiting firstIn firstWaiting serve nextNode nextBus turn start run replayed
+    cycle rowWrong rowRefusal streamWrong streamRefusal bodyRefusal headerRefusal sheetRefusal
+    streamsFrom outranks above mostReleases interference waitFor lateAt verdictAt search verdict verdictOf
+    ofNode queuedBefore waiting beginsFrom serve nextNode nextBus turn start run replayed
     roomRefusal tickBefore releaseRefusal logRefusal horizonRefusal lateRefusal nodeLateRefusal waitWord waitsFrom nodeWaitsFrom bufferAfter
     admitAnswer admitBuffer replayAnswer replayBuffer
     cases gives outcomeOf lent sheetA sheetA6 sheetP7 logP9 logP11
 all-hold = refl
+
+pub further : Further
+unfolding
+    sum upTo firstIn first firstOnes
+    refuseIf _orElse_ firstOf outside
+    cycle rowWrong rowRefusal streamWrong streamRefusal bodyRefusal headerRefusal sheetRefusal
+    streamsFrom outranks above mostReleases interference waitFor lateAt verdictAt search verdict verdictOf
+    ofNode queuedBefore waiting beginsFrom serve nextNode nextBus
+    unknownRefusal verdictAnswer oneStreamAnswer
+    roomRefusal tickBefore releaseRefusal logRefusal horizonRefusal lateRefusal nodeLateRefusal waitWord waitsFrom nodeWaitsFrom bufferAfter
+    admitAnswer admitBuffer replayAnswer recordRefusal stepRefusal stepAnswer stepBus stepBuffer
+    lent sheetA logP11 sheetEqual madeUpBus madeUpRoom
+further =
+    record {
+      secondStream = refl;
+      threeCycles = refl;
+      otherNode = refl;
+      lateStream = refl;
+      unknownStream = refl;
+      equalPeriods = refl;
+      roomBeforeLate = refl;
+      sheetBeforeRoom = refl;
+      logBeforeHorizon = refl;
+      horizonBeforeRoom = refl;
+      stepNumbers = refl;
+      stepRecord = refl;
+      stepWords = refl;
+      stepRefused = refl;
+    }

@@ -1,15 +1,17 @@
--- "Bench sheets": P1 to P12 of document 01 as one list, each with its whole outcome. A case lends a buffer of 9s that is one
--- word longer than needed, so that the words an entry must leave are seen too. Assumes nothing.
+-- "Bench sheets": P1 to P12 of document 01 as one list, each with its whole outcome; and further cases. A case lends a buffer of 9s that is one
+-- word longer than needed, so that the words an entry must leave are seen too. Rules 10. Assumes nothing.
 use Prim.Native.Nat.{ℕ, suc}
 use mathlib.Core.Path.{_≡_}
 use mathlib.Core.List.{List, [], _∷_, map}
 use lib.ListN.{length, replicate}
 use Rattle.model.specs.declared.Answer.{Answer}
+use Rattle.model.specs.declared.Bus.{Bus}
 use Rattle.model.specs.Limits.{notBegun}
 use Rattle.model.specs.Refusal.{success, refuse}
 use Rattle.model.specs.Sheet.{totalStreams}
 use Rattle.model.specs.Protocol.{releases}
-use Rattle.model.specs.Answers.{admitAnswer, admitBuffer, replayAnswer, replayBuffer}
+use Rattle.model.specs.Answers.{oneStreamAnswer, admitAnswer, admitBuffer, replayAnswer, replayBuffer, stepAnswer, stepBus, stepBuffer}
+use Rattle.model.specs.Bench.{sheetA, sheetA6, sheetP7, logP9, logP11}
 
 -- What is asked: admit a sheet; or replay a log on it up to a horizon.
 pub data Question : Type 0 where
@@ -42,26 +44,6 @@ outcomeOf (replay s log horizon) =
 unfoldable pub gives : Question → Answer → List ℕ → Case
 gives q a words = record { question = q; outcome = record { answer = a; buffer = words } }
 
--- "Sheet A", with the period and deadline of node 1's first stream and the deadline of its second as they vary.
-unfoldable pub sheetA : ℕ → ℕ → List ℕ
-sheetA first second =
-    2 ∷ 5 ∷ 1 ∷ 9 ∷ 2 ∷ 1 ∷ 13 ∷ 1 ∷ 2 ∷ first ∷ first ∷ 60 ∷ second ∷ 30 ∷ 30 ∷ []
-
--- Sheet A where "node 2 gets a second stream 50 50".
-unfoldable pub sheetA6 : List ℕ
-sheetA6 = 2 ∷ 5 ∷ 1 ∷ 9 ∷ 2 ∷ 1 ∷ 13 ∷ 2 ∷ 2 ∷ 40 ∷ 40 ∷ 60 ∷ 60 ∷ 30 ∷ 30 ∷ 50 ∷ 50 ∷ []
-
--- "one node, TMS 5, TPR 1, budget 1", with two streams, the second 100 100.
-unfoldable pub sheetP7 : ℕ → List ℕ
-sheetP7 first = 1 ∷ 5 ∷ 1 ∷ 6 ∷ 2 ∷ 1 ∷ first ∷ first ∷ 100 ∷ 100 ∷ []
-
--- The logs of P9 and of P11.
-unfoldable pub logP9 : List ℕ
-logP9 = 0 ∷ 1 ∷ 0 ∷ 2 ∷ 1 ∷ 3 ∷ []
-
-unfoldable pub logP11 : List ℕ
-logP11 = 0 ∷ 2 ∷ 0 ∷ 3 ∷ 0 ∷ 3 ∷ 1 ∷ 1 ∷ []
-
 -- P1 to P12, in order.
 unfoldable pub cases : List Case
 cases =
@@ -82,3 +64,32 @@ cases =
 -- The claim: the definitions give every case's outcome, all numbers and all words.
 abbrev pub AllHold : Type 0
 AllHold = map (λ c. outcomeOf (c .question)) cases ≡ map (λ c. c .outcome) cases
+
+-- One node with three streams of equal periods, the second with the shortest deadline: rank goes by the number.
+unfoldable pub sheetEqual : List ℕ
+sheetEqual = 1 ∷ 5 ∷ 1 ∷ 6 ∷ 3 ∷ 2 ∷ 100 ∷ 100 ∷ 100 ∷ 50 ∷ 100 ∷ 100 ∷ []
+
+-- A record and a buffer as nobody has made them by steps: of the log of P11, the second of node 2's two releases has begun and the
+-- first has not; the last word is no release's.
+unfoldable pub madeUpBus : Bus
+madeUpBus = record { tick = 7; node = 2; turns = 5 }
+
+unfoldable pub madeUpRoom : List ℕ
+madeUpRoom = 3 ∷ notBegun ∷ 4 ∷ notBegun ∷ notBegun ∷ []
+
+-- Cases beside P1 to P12: one stream with its wait and J, equal periods, the order of refusals, and one step over a made-up buffer.
+pub record Further : Type 0 where
+  pub secondStream : oneStreamAnswer (sheetA 40 60) 1 2 ≡ success 33 2
+  pub threeCycles : oneStreamAnswer (sheetA 33 60) 1 2 ≡ success 50 3
+  pub otherNode : oneStreamAnswer (sheetA 40 60) 2 1 ≡ success 16 1
+  pub lateStream : oneStreamAnswer (sheetA 40 37) 1 2 ≡ refuse 7 1 2
+  pub unknownStream : oneStreamAnswer (sheetA 40 37) 2 2 ≡ refuse 8 2 2
+  pub equalPeriods : admitBuffer sheetEqual (lent 3) ≡ 10 ∷ 15 ∷ 21 ∷ 9 ∷ []
+  pub roomBeforeLate : admitAnswer (sheetA 40 37) 2 ≡ refuse 6 0 0
+  pub sheetBeforeRoom : admitAnswer (sheetA 0 60) 0 ≡ refuse 5 1 1
+  pub logBeforeHorizon : replayAnswer (sheetA 40 60) (0 ∷ 4 ∷ []) 1_000_000_001 0 ≡ refuse 9 0 1
+  pub horizonBeforeRoom : replayAnswer (sheetA 40 60) (0 ∷ 1 ∷ []) 1_000_000_001 0 ≡ refuse 10 0 0
+  pub stepNumbers : stepAnswer (sheetA 40 60) logP11 madeUpBus madeUpRoom ≡ success 1 13
+  pub stepRecord : stepBus (sheetA 40 60) logP11 madeUpBus madeUpRoom ≡ record { tick = 13; node = 1; turns = 6 }
+  pub stepWords : stepBuffer (sheetA 40 60) logP11 madeUpBus madeUpRoom ≡ 3 ∷ 7 ∷ 4 ∷ notBegun ∷ notBegun ∷ []
+  pub stepRefused : stepAnswer (sheetA 40 60) logP11 (record { tick = 7; node = 3; turns = 5 }) madeUpRoom ≡ refuse 16 0 0

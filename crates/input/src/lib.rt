@@ -1,9 +1,23 @@
 // Bytes to words, for the programs. The library itself takes words.
 ghost use mathlib.Core.Path.{_≡_};
-ghost use Prim.Native.Nat.{_+_, _*_, _/_, _≤_, _<_, _^_};
+ghost use Prim.Native.Nat.{_+_, _*_, _%_, _≤_, _<_};
 ghost use mathlib.Core.List.{_++_};
 ghost use lib.ListN.{length, take, drop};
-ghost use Rattle.input.specs.Input.{wordAt, wordsFrom, loaded};
+ghost use Rattle.model.specs.Limits.{longestSheet, longestReplayInput};
+ghost use Rattle.model.specs.Sheet.{Valid};
+ghost use Rattle.input.specs.Input.{wordBytes, wordAt, wordsFrom, allWords, Loaded};
+
+// Words of the longest sheet.
+pub const SHEET_WORDS: usize = 563;
+
+// Words of the replay program's longest second file: the horizon and the longest log.
+pub const SECOND_WORDS: usize = 8193;
+
+// Bytes to read of a sheet: one more than the longest has, so that a longer one is seen as such.
+pub const SHEET_BYTES: usize = 4 * SHEET_WORDS + 1;
+
+// Bytes to read of a second file, likewise.
+pub const SECOND_BYTES: usize = 4 * SECOND_WORDS + 1;
 
 // A byte as a word.
 fn widen(b: u8) -> u32
@@ -35,10 +49,8 @@ fn store(bytes: &[u8], words: &mut [u32], n: usize)
 
 // Puts the words of the bytes at the start of `words` and answers how many there are: none where the bytes are no whole number
 // of words, or more than `words` can hold.
-pub fn load(bytes: &[u8], words: &mut [u32]) -> usize
-    ensures count { λ r. ⌜ r ≡ length (loaded (length (now (words .entry))) (now (bytes .entry))) ⌝ }
-    ensures stored { λ r. ⌜ now (words .exit) ≡ loaded (length (now (words .entry))) (now (bytes .entry)) ++ drop r (now (words .entry)) ⌝ }
-    ensures within { λ r. ⌜ (r ≤ length (now (words .exit))) × (r ≡ length (take r (now (words .exit)))) ⌝ }
+fn load(bytes: &[u8], words: &mut [u32]) -> usize
+    ensures { λ r. ⌜ Loaded (length (now (words .entry))) (now (bytes .entry)) (now (words .entry)) (now (words .exit)) r ⌝ }
 {
     let size = bytes.len();
     if size % 4 != 0 {
@@ -50,4 +62,19 @@ pub fn load(bytes: &[u8], words: &mut [u32]) -> usize
     }
     store(bytes, words, n);
     n
+}
+
+// The words of a sheet. The limit turns no valid sheet away.
+pub fn load_sheet(bytes: &[u8], words: &mut [u32; SHEET_WORDS]) -> usize
+    ensures loaded { λ r. ⌜ Loaded longestSheet (now (bytes .entry)) (now (words .entry)) (now (words .exit)) r ⌝ }
+    ensures valid { λ r. ⌜ (length (now (bytes .entry)) % wordBytes ≡ 0 → Valid (allWords (now (bytes .entry))) → take r (now (words .exit)) ≡ allWords (now (bytes .entry))) ⌝ }
+{
+    load(bytes, words)
+}
+
+// The words of the replay program's second file: the horizon, and then the log.
+pub fn load_second(bytes: &[u8], words: &mut [u32; SECOND_WORDS]) -> usize
+    ensures { λ r. ⌜ Loaded longestReplayInput (now (bytes .entry)) (now (words .entry)) (now (words .exit)) r ⌝ }
+{
+    load(bytes, words)
 }

@@ -1,10 +1,13 @@
 // Where the words of a sheet stand: accessors over any words, which read 0 past the end, as the definitions do; and a check's two
-// parts, a range and a refusal. None asks anything of its caller.
+// parts, a range and a refusal. None asks anything of its caller. No other crate knows how many words a row or a stream has.
 ghost use mathlib.Core.Path.{_≡_};
-ghost use Prim.Native.Nat.{_<_, _^_};
+ghost use Prim.Native.Nat.{pred, _+_, _*_, _/_, _<_, _^_};
+ghost use Rattle.model.specs.Limits.{streamWords};
 ghost use Rattle.model.specs.Refusal.{refuse, refuseIf, outside};
-ghost use Rattle.model.specs.Sheet.{word, rowAt, place, streamCount, budget, streamsUpTo, streamAt, period, deadline, contentsWords};
+ghost use Rattle.model.specs.Sheet.{word, rowAt, place, streamCount, budget, streamsUpTo, contentsWords};
+ghost use Rattle.model.specs.Analysis.{streamIn, streamOf};
 use model::Answer;
+use model::Stream;
 
 // A word as an index.
 pub fn wide(x: u32) -> usize
@@ -48,26 +51,54 @@ pub fn budget_of(sheet: &[u32], k: u32) -> u32
     word_at(sheet, row_at(k) + 2)
 }
 
-// Where stream j of node k stands.
-pub fn stream_at(sheet: &[u32], k: u32, j: u32) -> usize
-    ensures { λ r. ⌜ (r ≡ streamAt (now (sheet .entry)) k j) × (r < 2 ^ 34) ⌝ }
+// Where stream j stands in a body at `body`.
+pub fn place_in_body(body: u32, j: u32) -> usize
+    ensures { λ r. ⌜ (r ≡ body + streamWords * pred j) × (r < 2 ^ 34) ⌝ }
 {
-    let body = wide(place_of(sheet, k));
-    if j == 0 { body } else { body + 2 * wide(j - 1) }
+    if j == 0 {
+        wide(body)
+    } else {
+        wide(body) + 2 * wide(j - 1)
+    }
 }
 
-// The least period of stream j of node k.
-pub fn period_of(sheet: &[u32], k: u32, j: u32) -> u32
-    ensures { λ r. ⌜ r ≡ period (now (sheet .entry)) k j ⌝ }
+// The words that the bodies of so many streams take.
+pub fn body_words(count: u32) -> usize
+    ensures { λ r. ⌜ (r ≡ streamWords * count) × (r < 2 ^ 33) ⌝ }
 {
-    word_at(sheet, stream_at(sheet, k, j))
+    2 * wide(count)
 }
 
-// The deadline of stream j of node k.
-pub fn deadline_of(sheet: &[u32], k: u32, j: u32) -> u32
-    ensures { λ r. ⌜ r ≡ deadline (now (sheet .entry)) k j ⌝ }
+// How many streams have their bodies in so many words.
+pub fn streams_in(words: usize) -> usize
+    ensures { λ r. ⌜ r ≡ words / streamWords ⌝ }
 {
-    word_at(sheet, stream_at(sheet, k, j) + 1)
+    words / 2
+}
+
+// The stream with number j whose words stand at a place; 0 past the end.
+pub fn stream_in(sheet: &[u32], at: usize, j: u32) -> Stream
+    ensures { λ r. ⌜ r ≡ streamIn (now (sheet .entry)) at j ⌝ }
+{
+    if sheet.len() <= at {
+        return Stream {
+            number: j,
+            period: 0,
+            deadline: 0,
+        };
+    }
+    Stream {
+        number: j,
+        period: sheet[at],
+        deadline: word_at(sheet, at + 1),
+    }
+}
+
+// Stream j of node k.
+pub fn stream_of(sheet: &[u32], k: u32, j: u32) -> Stream
+    ensures { λ r. ⌜ r ≡ streamOf (now (sheet .entry)) k j ⌝ }
+{
+    stream_in(sheet, place_in_body(place_of(sheet, k), j), j)
 }
 
 // The streams of nodes 1 to k together.

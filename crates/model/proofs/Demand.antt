@@ -1,28 +1,13 @@
--- Demand 3, whole: for every sheet, log and horizon that the replay accepts. Each part is one law of the file that it is cited from;
--- docs/DEMAND-3.md tells the argument in words. Assumes nothing.
-use Prim.Native.Nat.{ℕ}
-use mathlib.Core.Path.{_≡_, ap}
-use mathlib.Core.List.{List}
-use Rattle.model.specs.Sheet.{word}
-use Rattle.model.specs.Protocol.{State, stateAt, replayed}
-use Rattle.model.specs.Demand.{Demand3}
-use Rattle.model.proofs.Run.{replayed-state}
-use Rattle.model.proofs.Accepted.{Replay, accepted-replay}
-use Rattle.model.proofs.Distance.{turns-apart}
-use Rattle.model.proofs.TurnMessages.{messages-most}
-use Rattle.model.proofs.WithinWait.{begins-within-wait}
-
-pub demand3 : Demand3
-demand3 s log horizon accepts =
-    let turns = replayed s log horizon .bus .turns in
-    let r : Replay s log horizon turns = accepted-replay accepts in
-    let state : replayed s log horizon ≡ stateAt s log turns = replayed-state s log horizon (r .fits .header .slotFrom) in
-    let words : replayed s log horizon .begins ≡ stateAt s log turns .begins = ap (λ (st : State). st .begins) state in
-    record {
-      turnsCounted = r .counted;
-      nextStart = ap (λ (st : State). st .bus .tick) state;
-      everyRelease = λ i h. ap (λ (w : List ℕ). word w i) words;
-      oneCycleApart = λ a b next h. turns-apart (r .fits) log next;
-      withinBudget = λ i h. rw words (messages-most r i h);
-      withinWait = λ k j wait cycles on listed kept i due. rw words (begins-within-wait r on listed kept i due);
-    }
+-- Demands 2 and 3, and the laws on the way to them.
+pub mod OneStream
+pub mod Admission
+pub mod Demand2
+pub mod Accepted
+pub mod NodeLine
+pub mod Distance
+pub mod ClassStreams
+pub mod TurnMessages
+pub mod WithinWait
+pub mod Demand3
+pub mod ReplayDemand
+pub mod Applied

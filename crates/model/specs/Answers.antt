@@ -1,5 +1,5 @@
 -- "What is answered": the three numbers of each entry, and what it leaves in the lent buffer ("room") and in the bus record,
--- for every input. Assumes nothing.
+-- for every input. Rules 5.5, 6 and 7. Assumes nothing.
 use Prim.Native.Nat.{ℕ, zero, suc, pred, _%_}
 use mathlib.Core.Bool.{cond, _||_, not}
 use mathlib.Core.List.{List, [], _∷_, _++_}
@@ -13,7 +13,7 @@ use Rattle.model.specs.Limits.{releaseWords, maxReleases, maxTime}
 use Rattle.model.specs.Refusal.{success, refuse, accepted, refuseIf, _orElse_, firstOf, outside}
 use Rattle.model.specs.Sheet.{nodes, streamCount, totalStreams, cycle, sheetRefusal}
 use Rattle.model.specs.Analysis.{verdictOf}
-use Rattle.model.specs.Protocol.{releases, releaseTick, releaseStream, serveTurn, nextBus, replayed}
+use Rattle.model.specs.Protocol.{releases, releaseTick, releaseStream, serveTurn, nextBus, State, replayed}
 
 -- Refusal 6: "room shorter than one word a stream (admit) or a release (replay, step)".
 unfoldable pub roomRefusal : ℕ → ℕ → Answer
@@ -141,3 +141,10 @@ stepBus s log bus room =
 unfoldable pub stepBuffer : List ℕ → List ℕ → Bus → List ℕ → List ℕ
 stepBuffer s log bus room =
     cond (eqb (stepRefusal s log bus (length room) .number) 0) (serveTurn s log bus room .begins) room
+
+-- The bus after k steps from a record and a buffer.
+unfoldable pub stepped : List ℕ → List ℕ → ℕ → State → State
+stepped s log zero st = st
+stepped s log (suc k) st =
+    let at = stepped s log k st in
+    record { bus = stepBus s log (at .bus) (at .begins); begins = stepBuffer s log (at .bus) (at .begins) }

@@ -1,15 +1,66 @@
--- Demand 3: one claim about a whole replay, from tick 0, with nothing sent, up to the horizon. Assumes nothing.
-use Prim.Native.Nat.{ℕ, zero, suc, _+_, _≤_, _<_}
+-- Demands 2 and 3: what holds of the waits that are listed, and of a whole replay. Rules 9.2 and 9.3. Assumes nothing.
+use Prim.Native.Nat.{ℕ, suc, pred, _+_, _-_, _*_, _≤_, _<_}
 use mathlib.Core.Path.{_≡_}
-use mathlib.Core.Bool.{Bool, true, cond, _&&_}
+use mathlib.Core.Logic.{_↔_, _⊎_}
+use mathlib.Core.Bool.{Bool, true, _&&_}
 use mathlib.Core.List.{List}
+use lib.ListN.{length}
 use lib.Dec.{leb, ltb}
+use Rattle.theory.specs.Count.{countBelow}
+use Rattle.model.specs.declared.Answer.{Answer}
 use Rattle.model.specs.declared.Verdict.the-variants.{Listed}
 use Rattle.model.specs.Limits.{notBegun}
-use Rattle.model.specs.Sheet.{word, budget, cycle, runningNumber, OnSheet}
-use Rattle.model.specs.Analysis.{streamOf, outranks, verdictOf}
+use Rattle.model.specs.Refusal.{success, refuse}
+use Rattle.model.specs.Sheet.{word, budget, cycle, deadline, runningNumber, totalStreams, OnSheet, Valid}
+use Rattle.model.specs.Analysis.{streamOf, outranks, interference, HasWait, IsLate, higherStreams, timingOf, verdictOf}
 use Rattle.model.specs.Protocol.{releases, releaseTick, releaseStream, KeepsPeriod, stateAt, startOf, nodeOf, TurnsBefore, replayed}
-use Rattle.model.specs.Answers.{replayAnswer}
+use Rattle.model.specs.Answers.{oneStreamAnswer, admitAnswer, admitBuffer, replayAnswer}
+
+-- Stream j of node k has that "listed wait", at J.
+abbrev pub StreamWait : List ℕ → ℕ → ℕ → ℕ → ℕ → Type 0
+StreamWait s k j J wait = HasWait (interference (higherStreams s k j)) (timingOf s k) (deadline s k j) J wait
+
+-- Stream j of node k is "late".
+abbrev pub StreamLate : List ℕ → ℕ → ℕ → Type 0
+StreamLate s k j = IsLate (interference (higherStreams s k j)) (timingOf s k) (deadline s k j)
+
+-- What demand 2 says of stream j of node k and what one stream answers for it.
+pub record Judged (s : List ℕ) (k j : ℕ) (answer : Answer) : Type 0 where
+  -- "The wait listed for a stream is the one document 01 defines, to the tick", and so is J
+  pub listed : (wait J : ℕ) → (answer ≡ success wait J) ↔ StreamWait s k j J wait
+  -- "a stream is called late exactly when no such wait meets its deadline"
+  pub late : (answer ≡ refuse 7 k j) ↔ StreamLate s k j
+  -- it is one of the two
+  pub decided : (answer .number ≡ 0) ⊎ (answer .number ≡ 7)
+  -- the place in the turn, "x = H(J × C − 1) − (J − 1) × m", is no negative number
+  pub placed : (wait J : ℕ) → StreamWait s k j J wait → pred J * budget s k ≤ interference (higherStreams s k j) (J * cycle s - 1)
+
+-- What demand 2 says of all streams, where admit answers so and leaves these words.
+pub record AllJudged (s : List ℕ) (answer : Answer) (words : List ℕ) : Type 0 where
+  -- admitted: each stream has the listed wait that stands for it "in sheet order"
+  pub admitted : answer .number ≡ 0
+      → (k j : ℕ)
+      → OnSheet s k j
+      → (J : ℕ) × StreamWait s k j J (word words (pred (runningNumber s k j)))
+  -- refused 7: that stream is late, and those before it "in sheet order" have listed waits
+  pub refused : answer .number ≡ 7
+      → OnSheet s (answer .second) (answer .third) × StreamLate s (answer .second) (answer .third)
+  pub first : answer .number ≡ 7
+      → (k j : ℕ)
+      → OnSheet s k j
+      → runningNumber s k j < runningNumber s (answer .second) (answer .third)
+      → (J wait : ℕ) × StreamWait s k j J wait
+  -- it is one of the two
+  pub decided : (answer .number ≡ 0) ⊎ (answer .number ≡ 7)
+
+-- Demand 2, whole: for any valid sheet, each stream by its one-stream answer, and all of them by what admit answers and writes,
+-- where the buffer has a word for each.
+pub record Demand2 : Type 0 where
+  pub oneStream : (s : List ℕ) → Valid s → (k j : ℕ) → OnSheet s k j → Judged s k j (oneStreamAnswer s k j)
+  pub admission : (s room : List ℕ)
+      → Valid s
+      → totalStreams s ≤ length room
+      → AllJudged s (admitAnswer s (length room)) (admitBuffer s room)
 
 -- "The replay accepts a log and horizon if, with room enough, it answers number 0".
 abbrev pub Accepts : List ℕ → List ℕ → ℕ → Type 0
@@ -18,11 +69,6 @@ Accepts s log horizon = replayAnswer s log horizon (releases log) .number ≡ 0
 -- True for "the releases whose written begin tick is at or after its start and before the tick the next turn would start".
 abbrev pub beganWithin : List ℕ → ℕ → ℕ → ℕ → Bool
 beganWithin words from next i = leb from (word words i) && ltb (word words i) next
-
--- How many releases below `count` the test holds for.
-unfoldable pub countBelow : (ℕ → Bool) → ℕ → ℕ
-countBelow test zero = 0
-countBelow test (suc i) = cond (test i) (suc (countBelow test i)) (countBelow test i)
 
 -- "A turn's messages": how many releases have their written begin tick in turn i.
 abbrev pub messagesOf : List ℕ → List ℕ → List ℕ → ℕ → ℕ

@@ -1,5 +1,5 @@
 -- Idle time: what the bus is after some silent turns, and how many start before a tick. Derived from
--- specs/Protocol: proofs/Idle says that the protocol's own turns are these. Assumes nothing.
+-- specs/Protocol (Rules 2.3 and 5.4): proofs/Protocol/Idle says that the protocol's own turns are these. Assumes nothing.
 use Prim.Native.Nat.{ℕ, suc, pred, _+_, _-_, _*_, _/_, _%_, _≤_, _<_}
 use mathlib.Core.List.{List}
 use Rattle.model.specs.declared.Bus.{Bus}

@@ -1,4 +1,5 @@
--- What a reader must believe: document 01 as definitions that compute. One file a section of it.
+-- What a reader must believe: document 01 as definitions that compute, by subject. (Limits names its numbers, Refusal puts refusals in
+-- order, Idle is derived, and Bench has its bench sheets.)
 pub mod Limits
 pub mod Refusal
 pub mod Sheet
@@ -7,3 +8,4 @@ pub mod Protocol
 pub mod Idle
 pub mod Answers
 pub mod Demand
+pub mod Bench

@@ -1,5 +1,5 @@
--- The numbers that document 01 fixes, one name each. Assumes nothing.
-use Prim.Native.Nat.{ℕ}
+-- The numbers that document 01 fixes, one name each: Rules 4.1, 4.3, 5.1, 5.3, 5.4 and 7.1. Assumes nothing.
+use Prim.Native.Nat.{ℕ, _+_, _*_}
 
 -- Words before the contents rows: n, TMS, TPR.
 abbrev pub headerWords : ℕ
@@ -33,7 +33,7 @@ maxBudget = 16
 abbrev pub maxSlotTicks : ℕ
 maxSlotTicks = 10_000
 
--- Latest tick of a release, latest horizon, longest period, and most turns in a bus record.
+-- Latest tick of a release, latest horizon, longest period, and latest tick and most turns in a bus record.
 abbrev pub maxTime : ℕ
 maxTime = 1_000_000_000
 
@@ -44,3 +44,12 @@ maxReleases = 4_096
 -- The word of a release that has not begun.
 abbrev pub notBegun : ℕ
 notBegun = 4_294_967_295
+
+-- Words of the longest valid sheet: most nodes, each with most streams. "over the length of the longest valid sheet (2,252 bytes
+-- here)" is over so many words.
+abbrev pub longestSheet : ℕ
+longestSheet = headerWords + rowWords * maxNodes + streamWords * (maxNodes * maxStreams)
+
+-- Words of the replay program's longest second file, the horizon and the longest log: "over 32,772 bytes" is over so many words.
+abbrev pub longestReplayInput : ℕ
+longestReplayInput = 1 + releaseWords * maxReleases

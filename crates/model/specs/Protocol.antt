@@ -1,14 +1,17 @@
--- "How the bus runs" and "The log and the replay": a log, one turn, and the run from tick 0 to a horizon. Assumes nothing.
+-- "How the bus runs" and "The log and the replay": a log, one turn, and the run from tick 0 to a horizon. Rules 2 and 5.
+-- Assumes nothing.
 use Prim.Native.Nat.{ℕ, zero, suc, _+_, _-_, _*_, _/_, _≤_, _<_}
 use mathlib.Core.Path.{_≡_}
 use mathlib.Core.Bool.{Bool, true, false, cond, _||_, _&&_}
-use mathlib.Core.List.{List}
+use mathlib.Core.List.{List, [], _∷_}
 use lib.ListN.{length, set, replicate}
 use lib.Dec.{ltb, leb, eqb}
+use Rattle.theory.specs.Queue.{Queue, firstOnes}
 use Rattle.model.specs.declared.Bus.{Bus}
+use Rattle.model.specs.declared.Stream.{Stream}
 use Rattle.model.specs.Limits.{releaseWords, notBegun}
 use Rattle.model.specs.Sheet.{word, nodes, messageTicks, slotTicks, budget, period, streamsBefore, streamsUpTo, runningNumber}
-use Rattle.model.specs.Analysis.{Stream, streamOf, outranks}
+use Rattle.model.specs.Analysis.{streamOf, outranks}
 
 -- The number of releases in a "log": "two words a release: tick, running stream number".
 abbrev pub releases : List ℕ → ℕ
@@ -56,39 +59,35 @@ unfoldable pub waiting : List ℕ → List ℕ → ℕ → ℕ → List ℕ → 
 waiting s log k tick begins i =
     leb (releaseTick log i) tick && ofNode s k (releaseStream log i) && eqb (word begins i) notBegun
 
--- The first of a collection in an order: of the numbers below `count` for which the test holds, the one before all others;
--- `none` where it holds for none.
-unfoldable pub firstIn : (ℕ → Bool) → (ℕ → ℕ → Bool) → ℕ → ℕ → ℕ
-firstIn test before none zero = none
-firstIn test before none (suc i) =
-    let best = firstIn test before none i in
-    cond (test i && (eqb best none || before i best)) i best
+-- Node k's queue at a tick, in "rank order".
+abbrev pub queueOf : List ℕ → List ℕ → ℕ → ℕ → List ℕ → Queue
+queueOf s log k tick begins =
+    record { size = releases log; waits = waiting s log k tick begins; before = queuedBefore s log k }
 
--- The first release in node k's queue at a tick, or the number of releases where none waits.
-unfoldable pub firstWaiting : List ℕ → List ℕ → ℕ → ℕ → List ℕ → ℕ
-firstWaiting s log k tick begins =
-    firstIn (waiting s log k tick begins) (queuedBefore s log k) (releases log) (releases log)
+-- Those that a turn with a budget takes: it "looks once at its queue" and "takes the first ones in rank order, as many as its budget
+-- allows or fewer if fewer wait". "A message released during the turn is not taken in it."
+abbrev pub takenBy : List ℕ → List ℕ → ℕ → ℕ → ℕ → List ℕ → List ℕ
+takenBy s log k tick m begins = firstOnes m (queueOf s log k tick begins)
 
--- What a turn does: how many messages it took, and the begin ticks after it.
+-- The begin words once those taken have begun, the first at `tick`: "the j-th taken (from 0) begins at s + j × TMS".
+unfoldable pub beginsFrom : ℕ → ℕ → List ℕ → List ℕ → List ℕ
+beginsFrom ticks tick [] begins = begins
+beginsFrom ticks tick (i ∷ taken) begins = beginsFrom ticks (tick + ticks) taken (set begins i tick)
+
+-- What a turn does: how many messages it took, and the begin words after it.
 pub record Served : Type 0 where
   pub taken : ℕ
   pub begins : List ℕ
 
--- A turn of node k that starts at `tick` and has taken j: it "takes the first ones in rank order, as many as its budget allows
--- or fewer if fewer wait. The j-th taken (from 0) begins at s + j × TMS." The queue is that of the start tick throughout, so
--- "a message released during the turn is not taken in it".
-unfoldable pub serve : List ℕ → List ℕ → ℕ → ℕ → ℕ → ℕ → List ℕ → Served
-serve s log k tick zero j begins = record { taken = j; begins = begins }
-serve s log k tick (suc left) j begins =
-    let i = firstWaiting s log k tick begins in
-    elim (ltb i (releases log)) [
-      | true ↦ serve s log k tick left (suc j) (set begins i (tick + j * messageTicks s))
-      | false ↦ record { taken = j; begins = begins }
-    ]
+-- A turn of node k with a budget, that starts at `tick`.
+unfoldable pub serve : List ℕ → List ℕ → ℕ → ℕ → ℕ → List ℕ → Served
+serve s log k tick m begins =
+    let taken = takenBy s log k tick m begins in
+    record { taken = length taken; begins = beginsFrom (messageTicks s) tick taken begins }
 
 -- The turn of the bus record's node at its tick.
 abbrev pub serveTurn : List ℕ → List ℕ → Bus → List ℕ → Served
-serveTurn s log bus begins = serve s log (bus .node) (bus .tick) (budget s (bus .node)) 0 begins
+serveTurn s log bus begins = serve s log (bus .node) (bus .tick) (budget s (bus .node)) begins
 
 -- "After node n comes node 1."
 unfoldable pub nextNode : List ℕ → ℕ → ℕ
@@ -143,6 +142,6 @@ run s log horizon (suc fuel) st =
     elim (ltb (st .bus .tick) horizon) [ true ↦ run s log horizon fuel (turn s log st) | false ↦ st ]
 
 -- The bus after the last turn that starts before the horizon. A turn takes a tick at least, so the horizon is fuel enough:
--- proofs/Run says that this is the state before turn T, where TurnsBefore T.
+-- proofs/Protocol/Run says that this is the state before turn T, where TurnsBefore T.
 unfoldable pub replayed : List ℕ → List ℕ → ℕ → State
 replayed s log horizon = run s log horizon horizon (start log)

@@ -1,4 +1,4 @@
--- How refusals are put in order: "The first that applies is given and none is given otherwise." Assumes nothing.
+-- How refusals are put in order: "The first that applies is given and none is given otherwise." Rules 6.1 and 7.2. Assumes nothing.
 use Prim.Native.Nat.{ℕ, zero, suc}
 use mathlib.Core.Bool.{Bool, cond, _||_}
 use lib.Dec.{eqb, ltb}

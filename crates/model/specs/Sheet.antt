@@ -1,11 +1,12 @@
 -- "The sheet": a list of words, contents first, then bodies. Nodes are numbered from 1, and so are the streams of a node.
--- Assumes nothing.
-use Prim.Native.Nat.{ℕ, zero, suc, pred, _+_, _*_, _≤_}
+-- Rules 4 and 2.5, and 7.1 for refusals 1 to 5. Assumes nothing.
+use Prim.Native.Nat.{ℕ, pred, _+_, _*_, _≤_}
 use mathlib.Core.Path.{_≡_}
 use mathlib.Core.Bool.{Bool, _||_, not}
 use mathlib.Core.List.{List}
 use lib.ListN.{length, getD}
 use lib.Dec.{ltb, eqb}
+use Rattle.theory.specs.Sum.{sumTo}
 use Rattle.model.specs.declared.Answer.{Answer}
 use Rattle.model.specs.Limits.{headerWords, rowWords, streamWords, maxNodes, maxStreams, maxBudget, maxSlotTicks, maxTime}
 use Rattle.model.specs.Refusal.{refuse, refuseIf, _orElse_, firstOf, outside}
@@ -43,9 +44,8 @@ abbrev pub budget : List ℕ → ℕ → ℕ
 budget s k = word s (rowAt k + 2)
 
 -- The streams of nodes 1 to k together.
-unfoldable pub streamsUpTo : List ℕ → ℕ → ℕ
-streamsUpTo s zero = 0
-streamsUpTo s (suc k) = streamsUpTo s k + streamCount s (suc k)
+abbrev pub streamsUpTo : List ℕ → ℕ → ℕ
+streamsUpTo s k = sumTo (streamCount s) k
 
 -- The streams of the nodes before node k.
 abbrev pub streamsBefore : List ℕ → ℕ → ℕ
@@ -84,9 +84,8 @@ abbrev pub deadline : List ℕ → ℕ → ℕ → ℕ
 deadline s k j = word s (streamAt s k j + 1)
 
 -- The budgets of nodes 1 to k together.
-unfoldable pub budgetsUpTo : List ℕ → ℕ → ℕ
-budgetsUpTo s zero = 0
-budgetsUpTo s (suc k) = budgetsUpTo s k + budget s (suc k)
+abbrev pub budgetsUpTo : List ℕ → ℕ → ℕ
+budgetsUpTo s k = sumTo (budget s) k
 
 -- "Full cycle C = (sum of all budgets) × TMS + n × TPR": the longest time for a turn of every node.
 unfoldable pub cycle : List ℕ → ℕ

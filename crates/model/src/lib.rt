@@ -1,4 +1,4 @@
-// What the planner speaks of: the answers and the bus record, and in specs/ what document 01 says of them. There is no code
+// What the planner speaks of: streams, answers and the bus record, and in specs/ what document 01 says of them. There is no code
 // here: the definitions in specs/ and the laws in proofs/ are what the other crates cite.
 
 // An answer: document 01's three numbers. Number 0 is success; any other is a refusal, and the two after it are its place.
@@ -21,4 +21,20 @@ pub struct Bus {
 pub enum Verdict {
     Late,
     Listed { wait: u32, cycles: u32 },
+}
+
+// A message stream of a node: its number there, its "least period" and its "deadline".
+pub struct Stream {
+    pub number: u32,
+    pub period: u32,
+    pub deadline: u32,
+}
+
+// What a wait goes by beside the streams above: the full cycle, "C"; the node's budget, "m"; and the ticks of a message and of a
+// protocol slot, "TMS" and "TPR".
+pub struct Timing {
+    pub cycle: u32,
+    pub budget: u32,
+    pub message: u32,
+    pub slot: u32,
 }

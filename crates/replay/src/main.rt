@@ -1,7 +1,21 @@
 // The replay program: reads a sheet from the file that its first argument names, and a horizon and then a log from the second, and
-// writes the begin tick of each release, or the refusal.
+// writes the begin tick of each release, or the refusal. What it writes is given by a definition, up to the call that writes it.
+ghost use mathlib.Core.Path.{_≡_};
+ghost use Prim.Native.Nat.{_*_, _≤_};
+ghost use lib.ListN.{length, take};
+ghost use Rattle.model.specs.Limits.{releaseWords, maxReleases, longestSheet, longestReplayInput};
 ghost use Rattle.io.specs.Counts.{Counts};
-use model::Answer;
+ghost use Rattle.input.specs.Input.{readBytes};
+ghost use Rattle.report.specs.Longest.{longestReplayText};
+ghost use Rattle.replay.specs.Output.{replayedText, answerText, output};
+use input::SECOND_BYTES;
+use input::SECOND_WORDS;
+use input::SHEET_BYTES;
+use input::SHEET_WORDS;
+use libc::STDOUT_FILENO;
+
+// Bytes of the longest text: 14 for the head, 16 a release for 4,096 releases, and 33 for the line under them.
+const TEXT_BYTES: usize = 65583;
 
 // Reads the file that argument i names: nothing where it is missing, or cannot be opened or read.
 fn read_file(i: usize, bytes: &mut [u8]) -> usize
@@ -21,66 +35,69 @@ fn read_file(i: usize, bytes: &mut [u8]) -> usize
     got
 }
 
-// One line of the table.
-fn row(release: usize, begin: u32) {
-    report::count(release);
-    if begin == 4294967295 {
-        report::text(b" -\n");
-        return;
-    }
-    report::text(b" ");
-    report::number(begin);
-    report::text(b"\n");
+// Reads the sheet, to one byte past the longest.
+fn read_sheet(bytes: &mut [u8]) -> usize
+    requires { ⌜ length (now bytes) ≡ readBytes longestSheet ⌝ }
+    ensures { λ r. ⌜ Counts r (now (bytes .exit)) ⌝ }
+{
+    read_file(1, bytes)
 }
 
-// The lines of all releases, counted from 1.
-fn rows(begins: &[u32], count: usize) {
-    let mut i: usize = 0;
-    while i < count {
-        let begin = layout::word_at(begins, i);
-        i += 1;
-        row(i, begin);
-    }
+// Reads the second file, to one byte past the longest.
+fn read_second(bytes: &mut [u8]) -> usize
+    requires { ⌜ length (now bytes) ≡ readBytes longestReplayInput ⌝ }
+    ensures { λ r. ⌜ Counts r (now (bytes .exit)) ⌝ }
+{
+    read_file(2, bytes)
 }
 
-// The table and the line under it.
-fn table(begins: &[u32], count: usize, turns: u32, next: u32) {
-    report::text(b"release begin\n");
-    rows(begins, count);
-    report::text(b"turns ");
-    report::number(turns);
-    report::text(b" next ");
-    report::number(next);
-    report::text(b"\n");
-}
-
-// Replays a log and reports it.
-fn run(sheet: &[u32], log: &[u32], horizon: u32) {
+// The text for a sheet, a log and a horizon.
+fn put_replay(sheet: &[u32], log: &[u32], horizon: u32, text: &mut [u8]) -> usize
+    requires { ⌜ (length (now log) ≤ releaseWords * maxReleases) × (length (now text) ≡ longestReplayText) ⌝ }
+    ensures counts { λ r. ⌜ Counts r (now (text .exit)) ⌝ }
+    ensures text { λ r. ⌜ take r (now (text .exit)) ≡ replayedText (now (sheet .entry)) (now (log .entry)) horizon ⌝ }
+{
     let mut room = [0u32; 4096];
     let answer = bus::replay(sheet, log, horizon, &mut room);
-    if answer.number != 0 {
-        report::refusal(answer);
-        return;
-    }
-    table(&room, log.len() / 2, answer.second, answer.third);
+    let count = log.len() / 2;
+    report::replay_text(text, &room, count as u32, answer)
 }
 
-// One byte more than is allowed is read of each file, so that a longer one is seen as such. A second file with no words is handed
-// on as a log of odd length, which is refusal 9 at 0 0 after 1 to 5.
-fn main() {
-    let mut bytes = [0u8; 2253];
-    let got = read_file(1, &mut bytes);
-    let mut sheet = [0u32; 563];
-    let n = input::load(&bytes[..got], &mut sheet);
-    let mut more = [0u8; 32773];
-    let second = read_file(2, &mut more);
-    let mut words = [0u32; 8193];
-    let m = input::load(&more[..second], &mut words);
-    if m == 0 {
+// The text for a sheet and the words of the second file. A file with no words is handed on as a log of odd length, which is refusal 9
+// at 0 0 after 1 to 5.
+fn put_answer(sheet: &[u32], second: &[u32], text: &mut [u8]) -> usize
+    requires { ⌜ (length (now second) ≤ longestReplayInput) × (length (now text) ≡ longestReplayText) ⌝ }
+    ensures counts { λ r. ⌜ Counts r (now (text .exit)) ⌝ }
+    ensures text { λ r. ⌜ take r (now (text .exit)) ≡ answerText (now (sheet .entry)) (now (second .entry)) ⌝ }
+{
+    if second.len() == 0 {
         let odd = [0u32; 1];
-        run(&sheet[..n], &odd, 0);
-    } else {
-        let horizon = words[0];
-        run(&sheet[..n], &words[1..m], horizon);
+        return put_replay(sheet, &odd, 0, text);
     }
+    let horizon = second[0];
+    put_replay(sheet, &second[1..], horizon, text)
+}
+
+// The text for the bytes of the two files.
+fn put_output(sheet: &[u8], second: &[u8], text: &mut [u8]) -> usize
+    requires { ⌜ length (now text) ≡ longestReplayText ⌝ }
+    ensures counts { λ r. ⌜ Counts r (now (text .exit)) ⌝ }
+    ensures text { λ r. ⌜ take r (now (text .exit)) ≡ output (now (sheet .entry)) (now (second .entry)) ⌝ }
+{
+    let mut words = [0u32; SHEET_WORDS];
+    let n = input::load_sheet(sheet, &mut words);
+    let mut more = [0u32; SECOND_WORDS];
+    let m = input::load_second(second, &mut more);
+    put_answer(&words[..n], &more[..m], text)
+}
+
+// Reads the two files, and writes their text in one call.
+fn main() {
+    let mut bytes = [0u8; SHEET_BYTES];
+    let got = read_sheet(&mut bytes);
+    let mut more = [0u8; SECOND_BYTES];
+    let second = read_second(&mut more);
+    let mut text = [0u8; TEXT_BYTES];
+    let n = put_output(&bytes[..got], &more[..second], &mut text);
+    io::write_all(STDOUT_FILENO, &text[..n]);
 }

@@ -78,7 +78,7 @@ fn check_rows(sheet: &[u32], n: u32) -> Answer
         if row.number != 0 {
             return row;
         }
-        at += 2 * layout::wide(layout::stream_count(sheet, i + 1));
+        at += layout::body_words(layout::stream_count(sheet, i + 1));
         i += 1;
     }
     Answer {
@@ -92,11 +92,11 @@ fn check_rows(sheet: &[u32], n: u32) -> Answer
 fn stream_is_wrong(sheet: &[u32], k: u32, j: u32) -> bool
     ensures { λ r. ⌜ r ≡ streamWrong (now (sheet .entry)) k j ⌝ }
 {
-    let period = layout::period_of(sheet, k, j);
-    if layout::is_outside(1, 1000000000, period) {
+    let stream = layout::stream_of(sheet, k, j);
+    if layout::is_outside(1, 1000000000, stream.period) {
         return true;
     }
-    layout::is_outside(1, period, layout::deadline_of(sheet, k, j))
+    layout::is_outside(1, stream.period, stream.deadline)
 }
 
 // Refusal 5 of stream j of node k.
@@ -158,7 +158,8 @@ pub fn check_sheet(sheet: &[u32]) -> Answer
     if rows.number != 0 {
         return rows;
     }
-    let end = layout::contents_words(sheet) + 2 * layout::streams_up_to(sheet, n);
+    let streams = layout::streams_up_to(sheet, n) as u32;
+    let end = layout::contents_words(sheet) + layout::body_words(streams);
     let length = refuse_if(sheet.len() != end, 4, 0, 0);
     if length.number != 0 {
         return length;

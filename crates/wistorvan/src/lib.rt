@@ -2,9 +2,10 @@
 // calls. A lent table passes as a pointer to its words and then their number.
 ghost use mathlib.Core.Path.{_≡_};
 ghost use lib.ListN.{length};
-ghost use Rattle.model.specs.Sheet.{sheetRefusal};
+ghost use Prim.Native.Nat.{_≤_};
+ghost use Rattle.model.specs.Sheet.{totalStreams, sheetRefusal, OnSheet, Valid};
 ghost use Rattle.model.specs.Answers.{oneStreamAnswer, admitAnswer, admitBuffer, replayAnswer, replayBuffer, stepAnswer, stepBus, stepBuffer};
-ghost use Rattle.model.specs.Demand.{WholeReplay};
+ghost use Rattle.model.specs.Demand.{Judged, AllJudged, WholeReplay};
 use model::Answer;
 use model::Bus;
 
@@ -16,19 +17,22 @@ pub extern "C" fn wistorvan_check_sheet(sheet: &[u32]) -> Answer
     sheet::check_sheet(sheet)
 }
 
-// "One stream": its listed wait and J.
+// "One stream": its listed wait and J. For a stream of a valid sheet, demand 2 holds of what it answers.
 #[no_mangle]
 pub extern "C" fn wistorvan_one_stream(sheet: &[u32], node: u32, stream: u32) -> Answer
-    ensures { λ r. ⌜ r ≡ oneStreamAnswer (now (sheet .entry)) node stream ⌝ }
+    ensures answer { λ r. ⌜ r ≡ oneStreamAnswer (now (sheet .entry)) node stream ⌝ }
+    ensures demand { λ r. ⌜ (Valid (now (sheet .entry)) → OnSheet (now (sheet .entry)) node stream → Judged (now (sheet .entry)) node stream r) ⌝ }
 {
     analysis::one_stream(sheet, node, stream)
 }
 
-// "Admit": the number of streams and C, and the listed waits in the buffer's first words.
+// "Admit": the number of streams and C, and the listed waits in the buffer's first words. For a valid sheet, with room enough, demand 2
+// holds of what it answers and writes.
 #[no_mangle]
 pub extern "C" fn wistorvan_admit(sheet: &[u32], room: &mut [u32]) -> Answer
     ensures answer { λ r. ⌜ r ≡ admitAnswer (now (sheet .entry)) (length (now (room .entry))) ⌝ }
     ensures buffer { λ r. ⌜ now (room .exit) ≡ admitBuffer (now (sheet .entry)) (now (room .entry)) ⌝ }
+    ensures demand { λ r. ⌜ (Valid (now (sheet .entry)) → totalStreams (now (sheet .entry)) ≤ length (now (room .entry)) → AllJudged (now (sheet .entry)) r (now (room .exit))) ⌝ }
 {
     analysis::admit(sheet, room)
 }

@@ -1,17 +1,19 @@
 -- `analysis::admit` meets its contract: each part's answer is the chain's where it refuses, with the room as it was, and hands on to
 -- the next where it does not.
 -- Assumes nothing.
-use Prim.Native.Nat.{ℕ}
+use Prim.Native.Nat.{ℕ, _≤_}
 use mathlib.Core.Path.{_≡_, ap, _∙_}
 use mathlib.Core.List.{List}
 use borrow.Author.Needs.{needs}
 use lib.ListN.{length}
 use Rattle.model.specs.declared.Answer.{Answer}
-use Rattle.model.specs.Sheet.{totalStreams}
+use Rattle.model.specs.Sheet.{totalStreams, Valid}
+use Rattle.model.specs.Demand.{AllJudged}
+use Rattle.model.proofs.Demand.Demand2.{demand2}
 use Rattle.model.specs.Answers.{roomRefusal, listedWaits, bufferAfter, admitAnswer, admitBuffer}
-use Rattle.model.proofs.Refusals.{refused, passed}
-use Rattle.model.proofs.NotRefused.{room-enough}
-use Rattle.model.proofs.Buffer.{buffer-kept}
+use Rattle.model.proofs.Sheet.Refusals.{refused, passed}
+use Rattle.model.proofs.Answers.NotRefused.{room-enough}
+use Rattle.model.proofs.Answers.Buffer.{buffer-kept}
 use Rattle.analysis.proofs.admit.Statement.{statement}
 use Rattle.analysis.proofs.admit.Tie as tie
 
@@ -19,6 +21,16 @@ use Rattle.analysis.proofs.admit.Tie as tie
 of-answer : (s room : List ℕ) {a : Answer} → a ≡ admitAnswer s (length room) → bufferAfter a (listedWaits s) room ≡ admitBuffer s room
 unfolding admitBuffer
 of-answer s room e = ap (λ a. bufferAfter a (listedWaits s) room) e
+
+-- Demand 2 goes by the answer and the buffer.
+with-demand : (s room : List ℕ) {a : Answer} {after : List ℕ}
+    → a ≡ admitAnswer s (length room)
+    → after ≡ bufferAfter a (listedWaits s) room
+    → (a ≡ admitAnswer s (length room))
+    × ((after ≡ admitBuffer s room) × (Valid s → totalStreams s ≤ length room → AllJudged s a after))
+with-demand s room answer left =
+    let buffer = left ∙ of-answer s room answer in
+    (answer, (buffer, λ valid enough. rw (answer, buffer) (demand2 .admission s room valid enough)))
 
 check-sheet-requires : tie.Need-check-sheet-requires
 check-sheet-requires c κs = search needs
@@ -28,7 +40,7 @@ unfolding admitAnswer
 returns c =
     let a = c .before .before .before .before .before .args in
     let answer = refused _ (c .before .before .check-sheet .ensures) (c .if1 .taken) in
-    (answer, buffer-kept _ (listedWaits (a .sheet .now)) (a .room .now) (c .if1 .taken) ∙ of-answer (a .sheet .now) (a .room .now) answer)
+    with-demand (a .sheet .now) (a .room .now) answer (buffer-kept _ (listedWaits (a .sheet .now)) (a .room .now) (c .if1 .taken))
 
 word-at-requires : tie.Need-word-at-requires
 word-at-requires c κs = search needs
@@ -57,7 +69,7 @@ returns-2 c =
     passed (c .before .before .before .before .before .before .before .check-sheet .ensures) (c .before .before .before .before .before .if1 .left)
     (refused _ (short (c .before .before)) (c .if2 .taken))
     in
-    (answer, buffer-kept _ (listedWaits (a .sheet .now)) (a .room .now) (c .if2 .taken) ∙ of-answer (a .sheet .now) (a .room .now) answer)
+    with-demand (a .sheet .now) (a .room .now) answer (buffer-kept _ (listedWaits (a .sheet .now)) (a .room .now) (c .if2 .taken))
 
 judge-sheet-requires : tie.Need-judge-sheet-requires
 judge-sheet-requires c κs =
@@ -80,7 +92,7 @@ returns-3 c =
     passed (c .before .before .before .before .before .before .before .before .before .before .before .check-sheet .ensures) (c .before .before .before .before .before .before .before .before .before .if1 .left)
     (passed (short (c .before .before .before .before .before .before)) (c .before .before .before .before .if2 .left) (judged .0))
     in
-    (answer, judged .1 ∙ of-answer (a .sheet .now) (a .room .now) answer)
+    with-demand (a .sheet .now) (a .room .now) answer (judged .1)
 
 pub admit-spec : {M : Type 1} → statement M
 admit-spec =

@@ -1,7 +1,7 @@
 -- `analysis::is_unknown` meets its contract: the first test holds, or the second is the answer. Assumes nothing.
 use mathlib.Core.Path.{sym, _∙_}
 use borrow.Author.Needs.{needs}
-use Rattle.model.proofs.Tests.{or-first, or-second}
+use Rattle.theory.proofs.Tests.{or-first, or-second}
 use Rattle.analysis.proofs.is_unknown.Statement.{statement}
 use Rattle.analysis.proofs.is_unknown.Tie as tie
 

@@ -1,20 +1,34 @@
 -- `analysis::one_stream` meets its contract: each part's answer is the chain's where it refuses, and hands on to the next where it
 -- does not.
 -- Assumes nothing.
+use Prim.Native.Nat.{ℕ}
 use mathlib.Core.Path.{_≡_, ap, _∙_}
+use mathlib.Core.List.{List}
 use borrow.Author.Needs.{needs}
+use Rattle.model.specs.declared.Answer.{Answer}
+use Rattle.model.specs.Sheet.{OnSheet, Valid}
+use Rattle.model.specs.Demand.{Judged}
+use Rattle.model.proofs.Demand.Demand2.{demand2}
 use Rattle.model.specs.Answers.{unknownRefusal, verdictAnswer, oneStreamAnswer}
-use Rattle.model.proofs.Refusals.{refused, passed}
-use Rattle.model.proofs.Asked.{known-on}
+use Rattle.model.proofs.Sheet.Refusals.{refused, passed}
+use Rattle.model.proofs.Answers.Asked.{known-on}
 use Rattle.analysis.proofs.one_stream.Statement.{statement}
 use Rattle.analysis.proofs.one_stream.Tie as tie
+
+-- Demand 2 goes by the answer.
+with-demand : (s : List ℕ) (k j : ℕ) {a : Answer}
+    → a ≡ oneStreamAnswer s k j
+    → (a ≡ oneStreamAnswer s k j) × (Valid s → OnSheet s k j → Judged s k j a)
+with-demand s k j same = (same, λ valid on. rw same (demand2 .oneStream s valid k j on))
 
 check-sheet-requires : tie.Need-check-sheet-requires
 check-sheet-requires c κs = search needs
 
 returns : tie.Need-returns
 unfolding oneStreamAnswer
-returns c = refused _ (c .before .before .check-sheet .ensures) (c .if1 .taken)
+returns c =
+    let a = c .before .before .before .before .args in
+    with-demand (a .sheet .now) (a .node) (a .stream) (refused _ (c .before .before .check-sheet .ensures) (c .if1 .taken))
 
 is-unknown-requires : tie.Need-is-unknown-requires
 is-unknown-requires c κs = search needs
@@ -30,8 +44,10 @@ unknown c = rw (c .before .is-unknown .ensures) at (c .refuse-if .ensures)
 returns-2 : tie.Need-returns-2
 unfolding oneStreamAnswer
 returns-2 c =
-    passed (c .before .before .before .before .before .before .check-sheet .ensures) (c .before .before .before .before .if1 .left)
-    (refused _ (unknown (c .before .before)) (c .if2 .taken))
+    let a = c .before .before .before .before .before .before .before .before .args in
+    with-demand (a .sheet .now) (a .node) (a .stream)
+    (passed (c .before .before .before .before .before .before .check-sheet .ensures) (c .before .before .before .before .if1 .left)
+    (refused _ (unknown (c .before .before)) (c .if2 .taken)))
 
 cycle-of-requires : tie.Need-cycle-of-requires
 cycle-of-requires c κs = rw (c .before .before .before .before .before .before .check-sheet .ensures) at (c .before .before .before .before .if1 .left)
@@ -51,9 +67,10 @@ returns-3 : tie.Need-returns-3
 unfolding oneStreamAnswer
 returns-3 c =
     let a = c .before .before .before .before .before .before .before .before .before .before .before .args in
-    passed (c .before .before .before .before .before .before .before .before .before .check-sheet .ensures) (c .before .before .before .before .before .before .before .if1 .left)
+    with-demand (a .sheet .now) (a .node) (a .stream)
+    (passed (c .before .before .before .before .before .before .before .before .before .check-sheet .ensures) (c .before .before .before .before .before .before .before .if1 .left)
     (passed (unknown (c .before .before .before .before .before)) (c .before .before .before .if2 .left)
-    (c .answer-of .ensures ∙ ap (verdictAnswer (a .node) (a .stream)) (c .before .verdict-on .ensures)))
+    (c .answer-of .ensures ∙ ap (verdictAnswer (a .node) (a .stream)) (c .before .verdict-on .ensures))))
 
 pub one-stream-spec : {M : Type 1} → statement M
 one-stream-spec =

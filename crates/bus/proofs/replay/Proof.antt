@@ -8,7 +8,7 @@ use lib.Seq.{take-at, drop-at}
 use Rattle.model.specs.Limits.{notBegun}
 use Rattle.model.specs.Protocol.{releases}
 use Rattle.log.specs.Replay.{replayRefusal}
-use Rattle.model.proofs.NotRefused.{ReplayAccepted}
+use Rattle.model.proofs.Answers.NotRefused.{ReplayAccepted}
 use Rattle.bus.proofs.AcceptedLog.{log-rises}
 use Rattle.bus.proofs.ReplayOutcome.{replay-checked, replay-refused, replay-done, outcome-demand}
 use Rattle.bus.proofs.replay.Statement.{statement}

@@ -3,7 +3,7 @@
 use mathlib.Core.Path.{sym, refl}
 use borrow.Author.Tests.{le-ltb}
 use Rattle.model.specs.Refusal.{outside}
-use Rattle.model.proofs.Tests.{outside-low}
+use Rattle.model.proofs.Sheet.Range.{outside-low}
 use Rattle.layout.proofs.is_outside.Statement.{statement}
 use Rattle.layout.proofs.is_outside.Tie as tie
 

@@ -1,7 +1,7 @@
 -- `layout::refuse_if` meets its contract: the branch decides the definition's test. Assumes nothing.
 use mathlib.Core.Path.{sym}
 use Rattle.model.specs.Refusal.{refuse}
-use Rattle.model.proofs.Refusals.{refuseIf-so, refuseIf-not}
+use Rattle.model.proofs.Sheet.Refusals.{refuseIf-so, refuseIf-not}
 use Rattle.layout.proofs.refuse_if.Statement.{statement}
 use Rattle.layout.proofs.refuse_if.Tie as tie
 

@@ -1,11 +1,12 @@
 -- `layout::streams_up_to` meets its contract: the sum so far is that of the nodes passed.
 -- Assumes nothing.
 use Prim.Native.Nat.{_≤_, _*_, _-_}
-use mathlib.Core.Path.{_≡_, refl, _∙_}
+use mathlib.Core.Path.{_≡_, sym, _∙_}
 use native.Mathlib.Omega.{arith}
 use borrow.Author.Needs.{needs}
-use Rattle.model.specs.Sheet.{streamsUpTo}
-use Rattle.model.proofs.RunningSums.{streams-next}
+use Rattle.theory.proofs.Sums.{sumTo-none}
+use Rattle.model.specs.Sheet.{streamCount, streamsUpTo}
+use Rattle.model.proofs.Sheet.NodeSums.{streams-next}
 use Rattle.layout.proofs.streams_up_to.Statement.{statement}
 use Rattle.layout.proofs.streams_up_to.Tie as tie
 
@@ -16,8 +17,8 @@ abbrev μ-loop : tie.MeasureT-loop
 μ-loop sheet k sum₀ i₀ sum i = k - i
 
 loop-holds : tie.Need-loop-holds Inv-loop μ-loop
-unfolding streamsUpTo
-loop-holds c = (search needs, refl, search needs)
+loop-holds c =
+    let none = sumTo-none (streamCount (c .before .args .sheet .now)) in (search needs, sym none, search needs)
 
 add-i : tie.Need-add-i Inv-loop μ-loop
 add-i c = omega arith

@@ -3,7 +3,7 @@
 use borrow.Author.Needs.{needs}
 use mathlib.Core.Path.{refl}
 use Rattle.model.specs.Answers.{roomRefusal}
-use Rattle.model.proofs.Refusals.{refused, passed}
+use Rattle.model.proofs.Sheet.Refusals.{refused, passed}
 use Rattle.log.proofs.check_input.Statement.{statement}
 use Rattle.log.proofs.check_input.Tie as tie
 

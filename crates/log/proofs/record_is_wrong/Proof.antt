@@ -4,7 +4,7 @@ use borrow.Author.Needs.{needs}
 use borrow.Author.Tests.{lt-ltb, le-ltb}
 use mathlib.Core.Path.{sym}
 use Rattle.model.specs.Limits.{maxTime}
-use Rattle.model.proofs.Tests.{or-first, or-second}
+use Rattle.theory.proofs.Tests.{or-first, or-second}
 use Rattle.log.proofs.record_is_wrong.Statement.{statement}
 use Rattle.log.proofs.record_is_wrong.Tie as tie
 

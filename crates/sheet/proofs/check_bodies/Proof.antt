@@ -4,7 +4,7 @@ use Prim.Native.Nat.{_≤_, _-_}
 use mathlib.Core.Path.{_≡_}
 use native.Mathlib.Omega.{arith}
 use borrow.Author.Needs.{needs}
-use Rattle.model.proofs.Refusals.{rest, rest-start, rest-on, rest-stop, rest-end}
+use Rattle.model.proofs.Sheet.Refusals.{rest, rest-start, rest-on, rest-stop, rest-end}
 use Rattle.model.specs.Refusal.{firstOf}
 use Rattle.model.specs.Sheet.{bodyRefusal}
 use Rattle.sheet.proofs.check_bodies.Statement.{statement}

@@ -2,7 +2,7 @@
 -- does not. Assumes nothing.
 use borrow.Author.Needs.{needs}
 use Rattle.model.specs.Sheet.{headerRefusal}
-use Rattle.model.proofs.Refusals.{refused, passed}
+use Rattle.model.proofs.Sheet.Refusals.{refused, passed}
 use Rattle.sheet.proofs.check_header.Statement.{statement}
 use Rattle.sheet.proofs.check_header.Tie as tie
 

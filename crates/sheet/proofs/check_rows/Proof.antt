@@ -1,19 +1,21 @@
 -- `sheet::check_rows` meets its contract: what is left of the row of checks equals the whole, and `at` is where the next body must be.
 -- Assumes nothing.
 use Prim.Native.Nat.{_≤_, _*_, _-_, _+_}
-use mathlib.Core.Path.{_≡_, refl, _∙_}
+use mathlib.Core.Path.{_≡_, refl}
 use native.Mathlib.Omega.{arith}
 use borrow.Author.Needs.{needs}
-use Rattle.model.proofs.Refusals.{rest, rest-start, rest-on, rest-stop, rest-end}
-use Rattle.model.proofs.ValidSheet.{row-fits}
-use Rattle.model.proofs.RunningSums.{streams-next, body-next}
+use Rattle.model.proofs.Sheet.Refusals.{rest, rest-start, rest-on, rest-stop, rest-end}
+use Rattle.model.proofs.Sheet.ValidSheet.{row-fits}
+use Rattle.model.proofs.Sheet.NodeSums.{streams-next, body-next}
+use Rattle.theory.proofs.Sums.{sumTo-none}
+use Rattle.model.specs.Limits.{headerWords, rowWords, streamWords, maxNodes, maxStreams}
 use Rattle.model.specs.Refusal.{firstOf}
-use Rattle.model.specs.Sheet.{streamsUpTo, contentsWords, rowRefusal}
+use Rattle.model.specs.Sheet.{streamCount, streamsUpTo, contentsWords, rowRefusal}
 use Rattle.sheet.proofs.check_rows.Statement.{statement}
 use Rattle.sheet.proofs.check_rows.Tie as tie
 
 abbrev Inv-loop : tie.InvT-loop
-Inv-loop sheet n at₀ i₀ at i = (i ≤ n) × (at ≡ contentsWords sheet + 2 * streamsUpTo sheet i) × (at ≤ 51 + 32 * i) × (rest (rowRefusal sheet) i n ≡ firstOf (rowRefusal sheet) 1 n)
+Inv-loop sheet n at₀ i₀ at i = (i ≤ n) × (at ≡ contentsWords sheet + streamWords * streamsUpTo sheet i) × (at ≤ headerWords + rowWords * maxNodes + streamWords * (maxStreams * i)) × (rest (rowRefusal sheet) i n ≡ firstOf (rowRefusal sheet) 1 n)
 
 abbrev μ-loop : tie.MeasureT-loop
 μ-loop sheet n at₀ i₀ at i = n - i
@@ -22,8 +24,7 @@ contents-words-requires : tie.Need-contents-words-requires Inv-loop μ-loop
 contents-words-requires c κs = search needs
 
 loop-holds : tie.Need-loop-holds Inv-loop μ-loop
-unfolding streamsUpTo
-loop-holds c = (search needs, omega arith, omega arith, rest-start (rowRefusal (c .before .before .args .sheet .now)) _)
+loop-holds c = (search needs, omega (arith, sumTo-none (streamCount (c .before .before .args .sheet .now))), omega arith, rest-start (rowRefusal (c .before .before .args .sheet .now)) _)
 
 add-check-row : tie.Need-add-check-row Inv-loop μ-loop
 add-check-row c = omega arith
@@ -40,11 +41,8 @@ add-stream-count c = omega arith
 stream-count-requires : tie.Need-stream-count-requires Inv-loop μ-loop
 stream-count-requires c κs = search needs
 
-wide-requires : tie.Need-wide-requires Inv-loop μ-loop
-wide-requires c κs = search needs
-
-mul-at : tie.Need-mul-at Inv-loop μ-loop
-mul-at c = omega arith
+body-words-requires : tie.Need-body-words-requires Inv-loop μ-loop
+body-words-requires c κs = search needs
 
 add-at : tie.Need-add-at Inv-loop μ-loop
 add-at c = omega arith
@@ -61,11 +59,11 @@ loop-again c =
     let inv = c .before .before .before .before .before .before .loop .inv in
     let row = c .before .before .before .before .check-row .ensures in
     let fits = row-fits (c .before .before .before .before .before .before .before .before .before .args .sheet .now) (i + 1) (rw row at (c .before .before .if1 .left)) in
-    let count = c .wide .ensures .0 ∙ c .before .stream-count .ensures in
+    let count = c .before .stream-count .ensures in
     let sum = streams-next (c .before .before .before .before .before .before .before .before .before .args .sheet .now) i refl count in (
       omega arith,
-      omega (arith, inv .1, sum),
-      omega (arith, inv .2, count, fits .streamsTo),
+      omega (arith, inv .1, sum, c .body-words .ensures .0),
+      omega (arith, inv .2, count, fits .streamsTo, c .body-words .ensures .0),
       rest-on (rowRefusal (c .before .before .before .before .before .before .before .before .before .args .sheet .now)) i _ (c .before .before .before .before .before .loop-test .taken) row (c .before .before .if1 .left) (inv .3),
     )
 
@@ -73,4 +71,4 @@ returns-2 : tie.Need-returns-2 Inv-loop μ-loop
 returns-2 c = rest-end (rowRefusal (c .before .before .before .before .args .sheet .now)) _ _ (c .loop-test .left) (c .before .loop .inv .3)
 
 pub check-rows-spec : {M : Type 1} → statement M
-check-rows-spec = tie.close (tie.spec Inv-loop μ-loop contents-words-requires loop-holds add-check-row check-row-requires returns add-stream-count stream-count-requires wide-requires mul-at add-at add-i loop-less loop-again returns-2)
+check-rows-spec = tie.close (tie.spec Inv-loop μ-loop contents-words-requires loop-holds add-check-row check-row-requires returns add-stream-count stream-count-requires body-words-requires add-at add-i loop-less loop-again returns-2)

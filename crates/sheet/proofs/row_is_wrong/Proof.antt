@@ -5,7 +5,7 @@ use mathlib.Core.Path.{sym, _∙_, ap}
 use mathlib.Core.Bool.{not}
 use Rattle.model.specs.Limits.{maxStreams}
 use Rattle.model.specs.Sheet.{place, bodyPlace, streamCount, rowWrong}
-use Rattle.model.proofs.Tests.{or-first, or-second}
+use Rattle.theory.proofs.Tests.{or-first, or-second}
 use Rattle.sheet.proofs.row_is_wrong.Statement.{statement}
 use Rattle.sheet.proofs.row_is_wrong.Tie as tie
 

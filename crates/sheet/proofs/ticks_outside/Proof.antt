@@ -1,7 +1,7 @@
 -- `sheet::ticks_outside` meets its contract: the first test holds, or the second is the answer. Assumes nothing.
 use borrow.Author.Needs.{needs}
 use mathlib.Core.Path.{sym, _∙_}
-use Rattle.model.proofs.Tests.{or-first, or-second}
+use Rattle.theory.proofs.Tests.{or-first, or-second}
 use Rattle.sheet.proofs.ticks_outside.Statement.{statement}
 use Rattle.sheet.proofs.ticks_outside.Tie as tie
 

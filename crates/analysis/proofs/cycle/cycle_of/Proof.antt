@@ -5,8 +5,8 @@ use mathlib.Core.Path.{_≡_, ap₂}
 use native.Mathlib.Omega.{arith}
 use borrow.Author.Needs.{needs}
 use Rattle.model.specs.Sheet.{nodes, messageTicks, slotTicks, budgetsUpTo, cycle}
-use Rattle.model.proofs.ValidSheet.{valid-fits}
-use Rattle.model.proofs.RunningSums.{cycle-most}
+use Rattle.model.proofs.Sheet.ValidSheet.{valid-fits}
+use Rattle.model.proofs.Sheet.NodeSums.{cycle-most}
 use Rattle.analysis.proofs.cycle.cycle_of.Statement.{statement}
 use Rattle.analysis.proofs.cycle.cycle_of.Tie as tie
 

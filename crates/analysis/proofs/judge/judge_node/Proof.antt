@@ -10,9 +10,9 @@ use borrow.Author.Needs.{needs}
 use lib.ListN.{length, take, length-set}
 use Rattle.model.specs.Refusal.{firstOf}
 use Rattle.model.specs.Answers.{nodeLateRefusal, waitsFrom}
-use Rattle.model.proofs.Refusals.{rest, rest-start, rest-on, rest-stop, rest-end}
+use Rattle.model.proofs.Sheet.Refusals.{rest, rest-start, rest-on, rest-stop, rest-end}
 use Rattle.analysis.proofs.Filling.{fill-one, fill-end}
-use Rattle.model.proofs.ListedWaits.{late-refused, listed-accepted, lateAt, waitsLeft, waits-all, waits-next, waits-none}
+use Rattle.model.proofs.Answers.ListedWaits.{late-refused, listed-accepted, lateAt, waitsLeft, waits-all, waits-next, waits-none}
 use Rattle.analysis.proofs.judge.judge_node.Statement.{statement}
 use Rattle.analysis.proofs.judge.judge_node.Tie as tie
 

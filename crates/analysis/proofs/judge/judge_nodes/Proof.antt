@@ -2,7 +2,7 @@
 -- that are left. The waits of the next node go into the part of the buffer that is lent from `at` on.
 -- Assumes nothing.
 use Prim.Native.Nat.{_≤_, _-_, _+_}
-use mathlib.Core.Path.{_≡_, refl, _∙_}
+use mathlib.Core.Path.{_≡_, refl, sym, _∙_}
 use mathlib.Core.List.{_++_}
 use native.Mathlib.Omega.{arith}
 use borrow.Author.Needs.{needs}
@@ -10,10 +10,11 @@ use lib.ListN.{length, take}
 use Rattle.model.specs.Refusal.{firstOf}
 use Rattle.model.specs.Sheet.{nodes, streamCount, streamsUpTo}
 use Rattle.model.specs.Answers.{nodeLateRefusal, nodeWaitsFrom}
-use Rattle.model.proofs.Refusals.{rest, rest-start, rest-on, rest-stop, rest-end}
+use Rattle.model.proofs.Sheet.Refusals.{rest, rest-start, rest-on, rest-stop, rest-end}
 use Rattle.analysis.proofs.Filling.{fill-part, part-length, fill-end}
-use Rattle.model.proofs.RunningSums.{streams-next, streams-room}
-use Rattle.model.proofs.ListedWaits.{nodesLeft, nodes-all, nodes-next, nodes-none}
+use Rattle.theory.proofs.Sums.{sumTo-none}
+use Rattle.model.proofs.Sheet.NodeSums.{streams-next, streams-room}
+use Rattle.model.proofs.Answers.ListedWaits.{nodesLeft, nodes-all, nodes-next, nodes-none}
 use Rattle.analysis.proofs.judge.judge_nodes.Statement.{statement}
 use Rattle.analysis.proofs.judge.judge_nodes.Tie as tie
 
@@ -29,10 +30,9 @@ abbrev μ-loop : tie.MeasureT-loop
 μ-loop sheet n cycle waits₀ at₀ i₀ waits at i = n - i
 
 loop-holds : tie.Need-loop-holds Inv-loop μ-loop
-unfolding streamsUpTo
 loop-holds c =
     let s = c .before .before .args .sheet .now in
-    (omega arith, refl, refl, rest-start (nodeLateRefusal s) _, nodes-all s _)
+    (omega arith, refl, sym (sumTo-none (streamCount s)), rest-start (nodeLateRefusal s) _, nodes-all s _)
 
 -- The buffer has a word for each stream of the next node.
 free : (c : tie.In-loop Inv-loop μ-loop)

@@ -1,39 +1,39 @@
 -- `analysis::wait::search_from_one` meets its contract: the search from the present number of cycles on is the whole, and the turns of
--- one cycle fewer are filled.
--- Assumes nothing.
+-- one cycle fewer are filled. Assumes nothing.
 use Prim.Native.Nat.{pred, _≤_, _<_, _-_, _+_, _*_}
 use mathlib.Core.Path.{_≡_}
 use native.Mathlib.Nat.{mul-le-mul, mul-le-mul-right, le-mul-of-pos-right, le-of-lt}
 use native.Mathlib.Omega.{arith}
 use borrow.Author.Needs.{needs}
 use Rattle.model.specs.Limits.{maxBudget}
-use Rattle.model.specs.Analysis.{interference, search as search-J, triesWorth}
-use Rattle.model.proofs.Wait.{worth-try}
-use Rattle.analysis.specs.Periods.{streamsWith}
-use Rattle.model.proofs.Searching.{searching, searching-all, searching-found, searching-on, searching-end, filled-on}
+use Rattle.model.specs.Analysis.{verdict}
+use Rattle.model.proofs.Analysis.Wait.{tries-cycles}
+use Rattle.model.proofs.Analysis.Searching.{searching, searching-all, searching-found, searching-on, searching-end, filled-on}
+use Rattle.analysis.specs.Periods.{interferenceBy}
+use Rattle.analysis.proofs.Periods.{by-grows}
 use Rattle.analysis.proofs.wait.search_from_one.Statement.{statement}
 use Rattle.analysis.proofs.wait.search_from_one.Tie as tie
 
 abbrev Inv-loop : tie.InvT-loop
-Inv-loop periods cycle budget ticks deadline tries cycles₀ cycles =
+Inv-loop periods timing deadline tries cycles₀ cycles =
     (1 ≤ cycles)
     × (cycles ≤ tries + 1)
-    × (searching (streamsWith periods) cycle budget ticks deadline tries cycles
-    ≡ search-J (streamsWith periods) cycle budget ticks deadline (triesWorth cycle ticks deadline) 1)
-    × (pred cycles * budget ≤ interference (streamsWith periods) (cycles * cycle - 1))
+    × (searching (interferenceBy periods) timing deadline tries cycles ≡ verdict (interferenceBy periods) timing deadline)
+    × (pred cycles * timing .budget ≤ interferenceBy periods (cycles * timing .cycle - 1))
 
 abbrev μ-loop : tie.MeasureT-loop
-μ-loop periods cycle budget ticks deadline tries cycles₀ cycles = tries + 1 - cycles
+μ-loop periods timing deadline tries cycles₀ cycles = tries + 1 - cycles
 
 tries-worth-requires : tie.Need-tries-worth-requires Inv-loop μ-loop
-tries-worth-requires c κs = omega arith
+tries-worth-requires c κs = (omega (arith, c .before .pre .1 .cycleFrom), c .before .pre .1 .deadlineTo)
 
 loop-holds : tie.Need-loop-holds Inv-loop μ-loop
+unfolding verdict
 loop-holds c =
     let a = c .before .before .args in (
       omega arith,
       omega arith,
-      searching-all (streamsWith (a .periods .now)) (a .cycle) (a .budget) (a .ticks) (a .deadline) (c .tries-worth .ensures),
+      searching-all (interferenceBy (a .periods .now)) (a .timing) (a .deadline) (c .tries-worth .ensures),
       omega arith,
     )
 
@@ -41,27 +41,23 @@ loop-holds c =
 tried : (c : tie.In-loop Inv-loop μ-loop) → c .before .loop .cycles ≤ c .before .before .tries-worth .result
 tried c = omega (arith, c .loop-test .taken)
 
--- and worth it.
-worth : (c : tie.In-loop Inv-loop μ-loop)
-    → c .before .loop .cycles * c .before .before .before .before .args .cycle + c .before .before .before .before .args .ticks
-    ≤ c .before .before .before .before .args .deadline + 1
+-- and within the deadline.
+worth : (c : tie.In-loop Inv-loop μ-loop) → c .before .loop .cycles * c .before .before .before .before .args .timing .cycle ≤ c .before .before .before .before .args .deadline + 1
 worth c =
     let a = c .before .before .before .before .args in
-    let positive : 0 < a .cycle = omega (arith, c .before .before .before .before .pre .1 .cycleFrom) in
-    let few = rw (c .before .before .tries-worth .ensures) at (tried c) in
-    worth-try (a .ticks) (a .deadline) positive (c .before .loop .inv .0) .0 few
+    let positive : 0 < a .timing .cycle = omega (arith, c .before .before .before .before .pre .1 .cycleFrom) in
+    tries-cycles (a .timing) (a .deadline) (c .before .loop .cycles) positive (rw (c .before .before .tries-worth .ensures) at (tried c))
 
 mul-interference-of : tie.Need-mul-interference-of Inv-loop μ-loop
-mul-interference-of c = omega (arith, worth c, c .before .before .before .before .pre .1 .deadlineTo)
+mul-interference-of c = omega (arith, worth (c .before), c .before .before .before .before .before .pre .1 .deadlineTo)
 
 sub-interference-of : tie.Need-sub-interference-of Inv-loop μ-loop
 sub-interference-of c =
-    let cycle = c .before .before .before .before .args .cycle in
-    omega (arith, mul-le-mul-right cycle (c .before .loop .inv .0), c .before .before .before .before .pre .1 .cycleFrom)
+    let cycle = c .before .before .before .before .before .args .timing .cycle in
+    omega (arith, mul-le-mul-right cycle (c .before .before .loop .inv .0), c .before .before .before .before .before .pre .1 .cycleFrom)
 
 interference-of-requires : tie.Need-interference-of-requires Inv-loop μ-loop
-interference-of-requires c κs =
-    (c .before .before .before .before .pre .0, omega (arith, worth c, c .before .before .before .before .pre .1 .deadlineTo))
+interference-of-requires c κs = (c .before .before .before .before .before .pre .0, omega (arith, worth (c .before), c .before .before .before .before .before .pre .1 .deadlineTo))
 
 long-requires : tie.Need-long-requires Inv-loop μ-loop
 long-requires c κs = search needs
@@ -71,20 +67,18 @@ long-requires-2 c κs = search needs
 
 mul-if1 : tie.Need-mul-if1 Inv-loop μ-loop
 mul-if1 c =
-    let most : c .long2 .result ≤ maxBudget =
-    rw (c .long2 .ensures .0) (c .before .before .before .before .before .before .before .pre .1 .budgetTo)
-    in
+    let most : c .long2 .result ≤ maxBudget = rw (c .long2 .ensures .0) (c .before .before .before .before .before .before .before .before .pre .1 .budgetTo) in
     omega (arith, mul-le-mul (le-of-lt (c .before .long .ensures .1)) most)
 
 verdict-at-requires : tie.Need-verdict-at-requires Inv-loop μ-loop
 verdict-at-requires c κs =
-    let l = c .before .before .before .before .before .loop in
-    let ranges = c .before .before .before .before .before .before .before .before .pre .1 in
+    let l = c .before .before .before .before .before .before .loop in
+    let ranges = c .before .before .before .before .before .before .before .before .before .pre .1 in
     let counted = c .before .before .before .interference-of .ensures in (
       ranges,
       record {
         fromOne = l .inv .0;
-        cyclesTo = omega (arith, worth (c .before .before .before .before));
+        cyclesTo = worth (c .before .before .before .before .before);
         counted = counted;
         enough = rw (c .before .before .long .ensures .0, c .before .long2 .ensures .0) at (c .if1 .taken);
         filled = rw counted (l .inv .3);
@@ -93,43 +87,37 @@ verdict-at-requires c κs =
 
 returns : tie.Need-returns Inv-loop μ-loop
 returns c =
-    let a = c .before .before .before .before .before .before .before .before .before .args in
-    let l = c .before .before .before .before .before .before .loop in
-    let enough =
-    rw (c .before .before .before .before .interference-of .ensures, c .before .before .before .long .ensures .0, c .before .before .long2 .ensures .0)
-    at (c .before .if1 .taken)
-    in
-    searching-found (streamsWith (a .periods .now)) (a .cycle) (a .budget) (a .ticks) (a .deadline) (tried (c .before .before .before .before .before)) enough (c .verdict-at .ensures) (l .inv .2)
+    let a = c .before .before .before .before .before .before .before .before .before .before .args in
+    let l = c .before .before .before .before .before .before .before .loop in
+    let enough = rw (c .before .before .before .before .interference-of .ensures, c .before .before .before .long .ensures .0, c .before .before .long2 .ensures .0) at (c .before .if1 .taken) in
+    searching-found (interferenceBy (a .periods .now)) (a .timing) (a .deadline) (tried (c .before .before .before .before .before .before)) enough (c .verdict-at .ensures) (l .inv .2)
 
 add-cycles : tie.Need-add-cycles Inv-loop μ-loop
 add-cycles c =
-    let a = c .before .before .before .before .before .before .before .before .args in
-    let ranges = c .before .before .before .before .before .before .before .before .pre .1 in
-    let cycles = c .before .before .before .before .before .loop .cycles in
-    let positive : 0 < a .cycle = omega (arith, ranges .cycleFrom) in
-    omega (arith, worth (c .before .before .before .before), le-mul-of-pos-right cycles positive, ranges .deadlineTo)
+    let a = c .before .before .before .before .before .before .before .before .before .args in
+    let ranges = c .before .before .before .before .before .before .before .before .before .pre .1 in
+    let positive : 0 < a .timing .cycle = omega (arith, ranges .cycleFrom) in
+    omega (arith, worth (c .before .before .before .before .before), le-mul-of-pos-right (c .before .before .before .before .before .before .loop .cycles) positive, ranges .deadlineTo)
 
 loop-less : tie.Need-loop-less Inv-loop μ-loop
 loop-less c = omega arith
 
 loop-again : tie.Need-loop-again Inv-loop μ-loop
 loop-again c =
-    let a = c .before .before .before .before .before .before .before .before .args in
-    let l = c .before .before .before .before .before .loop in
-    let filled =
-    rw (c .before .before .before .interference-of .ensures, c .before .before .long .ensures .0, c .before .long2 .ensures .0)
-    at (c .if1 .left)
-    in (
+    let a = c .before .before .before .before .before .before .before .before .before .args in
+    let l = c .before .before .before .before .before .before .loop in
+    let H = interferenceBy (a .periods .now) in
+    let filled = rw (c .before .before .before .interference-of .ensures, c .before .before .long .ensures .0, c .before .long2 .ensures .0) at (c .if1 .left) in (
       omega arith,
-      omega (arith, tried (c .before .before .before .before)),
-      searching-on (streamsWith (a .periods .now)) (a .cycle) (a .budget) (a .ticks) (a .deadline) (tried (c .before .before .before .before)) filled (l .inv .2),
-      filled-on (streamsWith (a .periods .now)) (a .cycle) (a .budget) (l .cycles) filled,
+      omega (arith, tried (c .before .before .before .before .before)),
+      searching-on H (a .timing) (a .deadline) (tried (c .before .before .before .before .before)) filled (l .inv .2),
+      filled-on (a .timing) (l .cycles) (by-grows (a .periods .now)) filled,
     )
 
 returns-2 : tie.Need-returns-2 Inv-loop μ-loop
 returns-2 c =
     let a = c .before .before .before .before .args in
-    searching-end (streamsWith (a .periods .now)) (a .cycle) (a .budget) (a .ticks) (a .deadline) (c .loop-test .left) (c .before .loop .inv .2)
+    searching-end (interferenceBy (a .periods .now)) (a .timing) (a .deadline) (c .loop-test .left) (c .before .loop .inv .2)
 
 pub search-from-one-spec : {M : Type 1} → statement M
 search-from-one-spec =

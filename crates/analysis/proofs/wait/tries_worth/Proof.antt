@@ -22,9 +22,9 @@ div-result c = search needs
 
 returns : tie.Need-returns
 returns c =
-    let a = c .before .args in
-    let none : a .deadline + 1 - a .ticks ≡ 0 = omega arith in
-    rw none (sym (zero-div (a .cycle)))
+    let a = c .before .before .args in
+    let none : a .deadline + 1 - a .timing .message ≡ 0 = omega (arith, c .if1 .taken) in
+    rw none (sym (zero-div (a .timing .cycle)))
 
 returns-2 : tie.Need-returns-2
 returns-2 c = search needs

@@ -1,4 +1,5 @@
--- `bus::queue::begun_before` meets its contract: all releases passed have begun. Assumes nothing.
+-- `bus::queue::begun_before` meets its contract: all releases passed have begun, and the one at which it stops has not.
+-- Assumes nothing.
 use Prim.Native.Nat.{_≤_, _-_}
 use mathlib.Core.Path.{_≡_}
 use native.Mathlib.Omega.{arith}
@@ -25,7 +26,7 @@ shared-slice-read-if1 : tie.Need-shared-slice-read-if1 Inv-loop μ-loop
 shared-slice-read-if1 c = omega arith
 
 returns : tie.Need-returns Inv-loop μ-loop
-returns c = c .before .before .before .loop .inv
+returns c = (c .before .before .before .loop .inv, λ below. c .if1 .taken)
 
 add-i : tie.Need-add-i Inv-loop μ-loop
 add-i c = omega arith
@@ -40,7 +41,7 @@ loop-again c =
     (omega arith, below-more (λ n. word room n ≡ notBegun → ⊥) _ (inv .1) (c .if1 .left))
 
 returns-2 : tie.Need-returns-2 Inv-loop μ-loop
-returns-2 c = c .before .loop .inv
+returns-2 c = (c .before .loop .inv, λ below. absurd (omega (arith, c .loop-test .left)))
 
 pub begun-before-spec : {M : Type 1} → statement M
 begun-before-spec =

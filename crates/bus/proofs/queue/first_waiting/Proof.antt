@@ -2,23 +2,21 @@
 -- Assumes nothing.
 use Prim.Native.Nat.{_-_, _≤_}
 use native.Mathlib.Omega.{arith}
-use mathlib.Core.Path.{_≡_, ap, _∙_}
+use mathlib.Core.Path.{_≡_, sym, ap, _∙_}
 use borrow.Author.Needs.{needs}
-use Rattle.model.specs.Protocol.{releaseStream}
-use Rattle.model.proofs.ValidSheet.{valid-fits}
-use Rattle.model.proofs.Waiting.{waiting-begun, waiting-below, waiting-above}
-use Rattle.bus.specs.Queue.{rankKey}
-use Rattle.bus.proofs.RankKey.{Own, key-there, key-read}
+use Rattle.model.specs.Protocol.{releaseStream, streamOfRelease}
+use Rattle.model.proofs.Protocol.Waiting.{waiting-begun, waiting-below, waiting-above}
+use Rattle.bus.proofs.OwnStreams.{Own}
 use Rattle.bus.proofs.Scan.{Scanned, scan-start, scan-on, scan-end, scan-behind, scan-ahead}
 use Rattle.bus.proofs.queue.first_waiting.Statement.{statement}
 use Rattle.bus.proofs.queue.first_waiting.Tie as tie
 
 abbrev Inv-loop : tie.InvT-loop
-Inv-loop sheet log node tick to room before last body first₀ first-key₀ i₀ first first-key i =
-    (i ≤ to) × Scanned sheet log node tick room i first first-key
+Inv-loop sheet log node tick to room before last body first₀ best₀ i₀ first best i =
+    (i ≤ to) × Scanned sheet log node tick room i first best
 
 abbrev μ-loop : tie.MeasureT-loop
-μ-loop sheet log node tick to room before last body first₀ first-key₀ i₀ first first-key i = to - i
+μ-loop sheet log node tick to room before last body first₀ best₀ i₀ first best i = to - i
 
 streams-of-requires : tie.Need-streams-of-requires Inv-loop μ-loop
 streams-of-requires c κs = c .before .before .before .pre .0 .0
@@ -89,40 +87,35 @@ own c =
     let stream = c .before .before .wide .ensures .0 in
     (omega (arith, ap (λ r. r .before) streams, stream, c .before .if2 .left), omega (arith, ap (λ r. r .last) streams, stream, c .if3 .left))
 
-rank-key-requires : tie.Need-rank-key-requires Inv-loop μ-loop
-rank-key-requires c κs =
-    let a = c .before .before .before .before .before .before .before .before .before .before .before .before .before .args in
-    let node = c .before .before .before .before .before .before .before .before .before .before .before .before .before .pre .0 .0 in
-    let stream = c .before .before .wide .ensures in
-    let there = key-there (a .sheet .now) (valid-fits (a .sheet .now) (node .valid)) (a .node) (node .from) (node .upTo) _ (own c) in
-    (c .before .if2 .left, stream .1, rw (c .before .before .before .before .before .before .before .before .before .streams-of .ensures, stream .0) there)
+own-stream-requires : tie.Need-own-stream-requires Inv-loop μ-loop
+own-stream-requires c κs = (c .before .if2 .left, c .before .before .wide .ensures .1)
 
--- the key that was read is the stream's
-key : (c : tie.After-rank-key Inv-loop μ-loop) → c .rank-key .result ≡ rankKey (c .before .before .before .before .before .before .before .before .before .before .before .before .before .before .args .sheet .now) (c .before .before .before .before .before .before .before .before .before .before .before .before .before .before .args .node) (releaseStream (c .before .before .before .before .before .before .before .before .before .before .before .before .before .before .args .log .now) (c .before .before .before .before .before .before .before .before .loop .i))
-key c =
-    let a = c .before .before .before .before .before .before .before .before .before .before .before .before .before .before .args in
-    let node = c .before .before .before .before .before .before .before .before .before .before .before .before .before .before .pre .0 .0 in
-    (rw (c .before .before .before .before .before .before .before .before .before .before .streams-of .ensures, c .before .before .before .wide .ensures .0) at (c .rank-key .ensures))
-    ∙ key-read (a .sheet .now) (valid-fits (a .sheet .now) (node .valid)) (a .node) (node .from) (node .upTo) (releaseStream (a .log .now) (c .before .before .before .before .before .before .before .before .loop .i))
+-- the stream that was read is the release's
+read : (c : tie.After-own-stream Inv-loop μ-loop) → c .own-stream .result ≡ streamOfRelease (c .before .before .before .before .before .before .before .before .before .before .before .before .before .before .args .sheet .now) (c .before .before .before .before .before .before .before .before .before .before .before .before .before .before .args .log .now) (c .before .before .before .before .before .before .before .before .before .before .before .before .before .before .args .node) (c .before .before .before .before .before .before .before .before .loop .i)
+read c = rw (c .before .before .before .before .before .before .before .before .before .before .streams-of .ensures, c .before .before .before .wide .ensures .0) at (c .own-stream .ensures)
+
+is-above-requires : tie.Need-is-above-requires Inv-loop μ-loop
+is-above-requires c κs = search needs
 
 loop-less-4 : tie.Need-loop-less-4 Inv-loop μ-loop
 loop-less-4 c = omega arith
 
 loop-again-4 : tie.Need-loop-again-4 Inv-loop μ-loop
 loop-again-4 c =
-    let pre = c .before .before .before .before .before .before .before .before .before .before .before .before .before .before .before .pre in
-    let inv = c .before .before .before .before .before .before .before .before .before .loop .inv in
-    (omega arith, scan-behind (pre .0 .0) _ (own (c .before .before)) (omega (arith, key (c .before), c .if4 .taken)) (omega (arith, pre .1 .inLog, c .before .before .before .before .before .before .before .before .loop-test .taken)) (inv .1))
+    let pre = c .before .before .before .before .before .before .before .before .before .before .before .before .before .before .before .before .pre in
+    let l = c .before .before .before .before .before .before .before .before .before .before .loop in
+    let above = sym (rw (read (c .before .before)) at (c .before .is-above .ensures)) ∙ c .if4 .taken in
+    (omega arith, rw (read (c .before .before)) (scan-ahead (pre .0 .0) (l .i) (own (c .before .before .before)) (pre .1 .released (l .i) (c .before .before .before .before .before .before .before .before .before .loop-test .taken)) (c .before .before .before .before .before .before .before .if1 .left) above (l .inv .1)))
 
 loop-less-5 : tie.Need-loop-less-5 Inv-loop μ-loop
 loop-less-5 c = omega arith
 
 loop-again-5 : tie.Need-loop-again-5 Inv-loop μ-loop
 loop-again-5 c =
-    let pre = c .before .before .before .before .before .before .before .before .before .before .before .before .before .before .before .pre in
-    let inv = c .before .before .before .before .before .before .before .before .before .loop .inv in
-    let i = c .before .before .before .before .before .before .before .before .before .loop .i in
-    (omega arith, rw (key (c .before)) (scan-ahead (pre .0 .0) i (own (c .before .before)) (pre .1 .released i (c .before .before .before .before .before .before .before .before .loop-test .taken)) (c .before .before .before .before .before .before .if1 .left) (omega (arith, key (c .before), c .if4 .left)) (inv .1)))
+    let pre = c .before .before .before .before .before .before .before .before .before .before .before .before .before .before .before .before .pre in
+    let l = c .before .before .before .before .before .before .before .before .before .before .loop in
+    let lower = sym (rw (read (c .before .before)) at (c .before .is-above .ensures)) ∙ c .if4 .left in
+    (omega arith, scan-behind (pre .0 .0) (l .i) (own (c .before .before .before)) lower (omega (arith, pre .1 .inLog, c .before .before .before .before .before .before .before .before .before .loop-test .taken)) (l .inv .1))
 
 returns : tie.Need-returns Inv-loop μ-loop
 returns c =
@@ -152,7 +145,8 @@ first-waiting-spec =
     loop-again-2
     loop-less-3
     loop-again-3
-    rank-key-requires
+    own-stream-requires
+    is-above-requires
     loop-less-4
     loop-again-4
     loop-less-5

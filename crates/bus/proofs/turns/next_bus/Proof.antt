@@ -3,7 +3,7 @@ use Prim.Native.Nat.{_*_, _≤_}
 use native.Mathlib.Nat.{mul-le-mul}
 use native.Mathlib.Omega.{arith}
 use borrow.Author.Needs.{needs}
-use Rattle.model.proofs.ValidSheet.{valid-fits}
+use Rattle.model.proofs.Sheet.ValidSheet.{valid-fits}
 use Rattle.bus.proofs.TurnSteps.{next-record}
 use Rattle.bus.proofs.turns.next_bus.Statement.{statement}
 use Rattle.bus.proofs.turns.next_bus.Tie as tie

@@ -10,7 +10,7 @@ use mathlib.Core.List.{List}
 use Rattle.model.specs.declared.Bus.{Bus}
 use Rattle.model.specs.Sheet.{nodes, slotTicks}
 use Rattle.model.specs.Idle.{idleBus, silentTurns}
-use Rattle.model.proofs.ValidSheet.{valid-fits}
+use Rattle.model.proofs.Sheet.ValidSheet.{valid-fits}
 use Rattle.bus.proofs.turns.pass_idle.Statement.{statement}
 use Rattle.bus.proofs.turns.pass_idle.Tie as tie
 

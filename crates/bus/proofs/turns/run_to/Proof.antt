@@ -5,8 +5,8 @@ use native.Mathlib.Omega.{arith}
 use lib.ListN.{length}
 use Rattle.model.specs.Sheet.{slotTicks}
 use Rattle.model.specs.Protocol.{releases}
-use Rattle.model.proofs.ValidSheet.{valid-fits}
-use Rattle.model.proofs.Idle.{silent-before}
+use Rattle.model.proofs.Sheet.ValidSheet.{valid-fits}
+use Rattle.model.proofs.Protocol.Idle.{silent-before}
 use Rattle.bus.proofs.TurnSteps.{taken-few, clock-moves}
 use Rattle.bus.proofs.RunSteps.{Window, Running, running-start, running-on, running-idle, running-done}
 use Rattle.bus.proofs.turns.run_to.Statement.{statement}
@@ -39,7 +39,7 @@ begun-before-requires c κs =
 window : (c : tie.After-begun-before Inv-loop μ-loop)
     → Window (c .before .before .before .before .before .before .before .before .before .args .log .now) (c .before .before .before .before .before .loop .bus .tick) (c .before .before .before .before .before .loop .room) (c .begun-before .result) (c .before .before .arrived-by .result)
 window c =
-    let begun = c .begun-before .ensures in
+    let begun = c .begun-before .ensures .0 in
     record { ordered = begun .0; begun = begun .1; arrived = c .before .before .arrived-by .ensures .0 }
 
 next-event-requires : tie.Need-next-event-requires Inv-loop μ-loop

@@ -9,7 +9,7 @@ use lib.ListN.{length, length-set}
 use Rattle.model.specs.Limits.{maxTime}
 use Rattle.model.specs.Sheet.{messageTicks, budget as nodeBudget}
 use Rattle.model.specs.Protocol.{serve}
-use Rattle.model.proofs.ValidSheet.{valid-fits}
+use Rattle.model.proofs.Sheet.ValidSheet.{valid-fits}
 use Rattle.bus.proofs.TurnSteps.{restOfTurn, turn-start, turn-take, turn-stop, turn-spent, begins-by}
 use Rattle.bus.proofs.turns.run_turn.Statement.{statement}
 use Rattle.bus.proofs.turns.run_turn.Tie as tie
@@ -18,7 +18,7 @@ abbrev Inv-loop : tie.InvT-loop
 Inv-loop sheet log to room₀ node tick budget message count begin₀ j₀ room begin j =
     (begin ≡ tick + j * messageTicks sheet)
     × (length room ≡ length room₀)
-    × (restOfTurn sheet log node tick (nodeBudget sheet node) j room ≡ serve sheet log node tick (nodeBudget sheet node) 0 room₀)
+    × (restOfTurn sheet log node tick (nodeBudget sheet node) j begin room ≡ serve sheet log node tick (nodeBudget sheet node) room₀)
 
 abbrev μ-loop : tie.MeasureT-loop
 μ-loop sheet log to room₀ node tick budget message count begin₀ j₀ room begin j = budget - j
@@ -51,7 +51,7 @@ returns c =
     let a = c .before .before .before .before .before .before .before .before .before .before .args in
     let bus = a .bus in
     let nobody = rw (c .before .first-waiting .ensures) at (c .if1 .taken) in
-    let whole = turn-stop (a .sheet .now) (a .log .now) (bus .node) (bus .tick) (nodeBudget (a .sheet .now) (bus .node)) _ _ nobody (c .before .before .before .before .loop .inv .2) in
+    let whole = turn-stop (a .sheet .now) (a .log .now) (bus .node) (bus .tick) (nodeBudget (a .sheet .now) (bus .node)) _ _ _ nobody (c .before .before .before .before .loop .inv .2) in
     (ap (λ v. v .taken) whole, ap (λ v. v .begins) whole)
 
 mul-room : tie.Need-mul-room Inv-loop μ-loop
@@ -86,7 +86,7 @@ loop-again c =
     let left = rw (c .before .before .before .before .before .before .budget-of .ensures) at (c .before .before .before .loop-test .taken) in (
       rw (add-mul, one-mul) (omega (arith, inv .0, c .before .before .before .before .before .word-at .ensures)),
       simp length-set (inv .1),
-      turn-take (a .sheet .now) (a .log .now) (bus .node) (bus .tick) (nodeBudget (a .sheet .now) (bus .node)) _ _ left first (c .if1 .left) (inv .0) (inv .2),
+      turn-take (a .sheet .now) (a .log .now) (bus .node) (bus .tick) (nodeBudget (a .sheet .now) (bus .node)) _ _ left first (c .if1 .left) (omega (arith, c .if1 .left, c .before .before .before .before .before .before .before .before .before .before .pre .0 .2, inv .1)) (omega (arith, early c)) (ap (λ n. c .before .before .before .before .loop .begin + n) (c .before .before .before .before .before .word-at .ensures)) (inv .2),
     )
 
 same-length-2 : tie.Need-same-length-2 Inv-loop μ-loop
@@ -97,7 +97,7 @@ returns-2 c =
     let a = c .before .before .before .before .before .before .before .args in
     let bus = a .bus in
     let spent = rw (c .before .before .before .budget-of .ensures) at (c .loop-test .left) in
-    let whole = turn-spent (a .sheet .now) (a .log .now) (bus .node) (bus .tick) (nodeBudget (a .sheet .now) (bus .node)) _ _ spent (c .before .loop .inv .2) in
+    let whole = turn-spent (a .sheet .now) (a .log .now) (bus .node) (bus .tick) (nodeBudget (a .sheet .now) (bus .node)) _ _ _ spent (c .before .loop .inv .2) in
     (ap (λ v. v .taken) whole, ap (λ v. v .begins) whole)
 
 pub run-turn-spec : {M : Type 1} → statement M

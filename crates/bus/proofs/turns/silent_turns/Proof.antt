@@ -2,7 +2,7 @@
 -- Assumes nothing.
 use mathlib.Core.Path.{refl}
 use borrow.Author.Needs.{needs}
-use Rattle.model.proofs.Idle.{silent-before}
+use Rattle.model.proofs.Protocol.Idle.{silent-before}
 use Rattle.bus.proofs.turns.silent_turns.Statement.{statement}
 use Rattle.bus.proofs.turns.silent_turns.Tie as tie
 

@@ -8,7 +8,7 @@ use Rattle.model.specs.Limits.{maxReleases}
 use Rattle.model.specs.Refusal.{refuse}
 use Rattle.model.specs.Protocol.{releases}
 use Rattle.model.specs.Answers.{logRefusal}
-use Rattle.model.proofs.Refusals.{refused, passed, refuseIf-none}
+use Rattle.model.proofs.Sheet.Refusals.{refused, passed, refuseIf-none}
 use Rattle.log.proofs.reader.check_log.Statement.{statement}
 use Rattle.log.proofs.reader.check_log.Tie as tie
 

@@ -9,7 +9,7 @@ use Rattle.model.specs.Refusal.{firstOf}
 use Rattle.model.specs.Sheet.{totalStreams}
 use Rattle.model.specs.Protocol.{releases}
 use Rattle.model.specs.Answers.{tickBefore, releaseRefusal}
-use Rattle.model.proofs.Refusals.{rest, rest-start, rest-on, rest-stop, rest-end}
+use Rattle.model.proofs.Sheet.Refusals.{rest, rest-start, rest-on, rest-stop, rest-end}
 use Rattle.log.proofs.reader.check_releases.Statement.{statement}
 use Rattle.log.proofs.reader.check_releases.Tie as tie
 

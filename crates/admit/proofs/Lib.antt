@@ -1,0 +1,2 @@
+-- Laws about what the program writes.
+mod Output

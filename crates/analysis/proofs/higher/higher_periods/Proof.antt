@@ -1,0 +1,28 @@
+-- `analysis::higher::higher_periods` meets its contract: the body is where the sheet has it, and not too long. Assumes nothing.
+use borrow.Author.Needs.{needs}
+use Rattle.model.proofs.Sheet.ValidSheet.{valid-fits}
+use Rattle.analysis.proofs.InRange.{body-there}
+use Rattle.analysis.proofs.higher.higher_periods.Statement.{statement}
+use Rattle.analysis.proofs.higher.higher_periods.Tie as tie
+
+place-of-requires : tie.Need-place-of-requires
+place-of-requires c κs = search needs
+
+stream-count-requires : tie.Need-stream-count-requires
+stream-count-requires c κs = search needs
+
+collect-above-requires : tie.Need-collect-above-requires
+collect-above-requires c κs =
+    let s = c .before .before .before .before .before .args .sheet .now in
+    let p = c .before .before .before .before .before .pre in
+    (body-there s _ (valid-fits s (p .0)) (p .1) (p .2) (c .before .before .place-of .ensures) (c .before .stream-count .ensures), p .3)
+
+same-length : tie.Need-same-length
+same-length c = search needs
+
+returns : tie.Need-returns
+returns c = search needs
+
+pub higher-periods-spec : {M : Type 1} → statement M
+higher-periods-spec =
+    tie.close (tie.spec place-of-requires stream-count-requires collect-above-requires same-length returns)

@@ -1,0 +1,8 @@
+-- Laws about the listed wait: rank, interference, and the search for J.
+pub mod Rank
+pub mod NodeStreams
+pub mod Interference
+pub mod Wait
+pub mod Search
+pub mod Searching
+pub mod StreamVerdict

@@ -1,0 +1,43 @@
+-- A lent buffer: written from the front, after i words it holds those i and then its old words from i on; and what an answer leaves
+-- in it. Assumes nothing.
+use Prim.Native.Nat.{ℕ, suc, _+_, _<_}
+use native.Mathlib.Numerals.{add-one}
+use native.Mathlib.Decide.{ℕ-discrete}
+use mathlib.Core.Path.{_≡_, refl, sym, ap, _∙_}
+use mathlib.Core.List.{List, [], _∷_, _++_}
+use lib.ListN.{length, set, drop}
+use lib.Seq.{drop-cons, set-at, append-snoc}
+use borrow.Author.Tests.{eq-eqb, ne-eqb}
+use Rattle.model.specs.declared.Answer.{Answer}
+use Rattle.model.specs.Answers.{bufferAfter}
+
+-- One word more.
+pub write-next : (written old : List ℕ) (i v : ℕ)
+    → length written ≡ i
+    → i < length old
+    → set (written ++ drop i old) i v ≡ (written ++ (v ∷ [])) ++ drop (i + 1) old
+write-next written old i v same there =
+    rw (drop-cons old i 0 there, add-one i)
+    (set-at written _ (drop (suc i) old) v i same ∙ sym (append-snoc written v (drop (suc i) old)))
+
+-- A refusal changes no word.
+pub buffer-kept : (a : Answer) (values room : List ℕ) → (a .number ≡ 0 → ⊥) → room ≡ bufferAfter a values room
+unfolding bufferAfter
+buffer-kept a values room refuses = rw (ne-eqb (a .number) 0 refuses) refl
+
+-- A success leaves its values and the rest.
+pub buffer-written : (a : Answer) (values room : List ℕ)
+    → a .number ≡ 0
+    → values ++ drop (length values) room ≡ bufferAfter a values room
+unfolding bufferAfter
+buffer-written a values room passes = rw (eq-eqb (a .number) 0 passes) refl
+
+-- What a refusal would have written does not matter.
+pub buffer-by : (a : Answer) {values others : List ℕ} (room : List ℕ)
+    → (a .number ≡ 0 → values ≡ others)
+    → bufferAfter a values room ≡ bufferAfter a others room
+buffer-by a {values} {others} room same = go (ℕ-discrete (a .number) 0)
+  where
+    go : Dec (a .number ≡ 0) → bufferAfter a values room ≡ bufferAfter a others room
+    go (yes passes) = ap (λ vs. bufferAfter a vs room) (same passes)
+    go (no refuses) = sym (buffer-kept a values room refuses) ∙ buffer-kept a others room refuses

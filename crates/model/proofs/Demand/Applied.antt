@@ -1,0 +1,247 @@
+-- The demands applied to concrete sheets and replays. Each conclusion has numbers that a weaker demand would not give: of the words that
+-- a replay wrote nothing is known here but what demand 3 says. Assumes nothing.
+use Prim.Native.Nat.{ℕ, zero, suc, _+_, _-_, _*_, _≤_, _<_}
+use native.Mathlib.Omega.{arith}
+use mathlib.Core.Path.{_≡_, refl, ap, _∙_}
+use mathlib.Core.Bool.{true, false≢true}
+use mathlib.Core.List.{List, [], _∷_}
+use Rattle.theory.specs.Sum.{sum, upTo}
+use Rattle.theory.specs.Queue.{firstIn, first, firstOnes}
+use Rattle.model.specs.declared.Answer.{Answer}
+use Rattle.model.specs.Limits.{notBegun}
+use Rattle.model.specs.Refusal.{refuseIf, _orElse_, firstOf, outside}
+use Rattle.model.specs.Sheet.{word, cycle, OnSheet, rowWrong, rowRefusal, streamWrong, streamRefusal, bodyRefusal, headerRefusal, sheetRefusal}
+use Rattle.model.specs.Analysis.{streamOf, streamsFrom, outranks, above, mostReleases, interference, waitFor, lateAt, verdictAt, search, verdict, higherStreams, verdictOf}
+use Rattle.model.specs.Protocol.{KeepsPeriod, ofNode, queuedBefore, waiting, beginsFrom, serve, nextNode, nextBus, turn, start, stateAt, startOf, nodeOf, TurnsBefore, run, replayed}
+use Rattle.model.specs.Answers.{roomRefusal, tickBefore, releaseRefusal, logRefusal, horizonRefusal, unknownRefusal, verdictAnswer, lateRefusal, nodeLateRefusal, waitWord, waitsFrom, nodeWaitsFrom, bufferAfter, oneStreamAnswer, admitAnswer, admitBuffer, replayAnswer, stepped}
+use Rattle.model.specs.Demand.{StreamWait, StreamLate, messagesOf, BeginsWithin, NextTurn, PeriodsKept, DueBefore, WholeReplay}
+use Rattle.model.specs.Bench.{sheetA, logCrowded, logPeriodic}
+use Rattle.model.proofs.Protocol.Run.{turns-unique}
+use Rattle.model.proofs.Answers.Stepping.{inFront, stepping}
+use Rattle.model.proofs.Demand.Demand2.{demand2}
+use Rattle.model.proofs.Demand.Demand3.{demand3}
+
+-- "Sheet A".
+abbrev A : List ℕ
+A = sheetA 40 60
+
+-- A stream of node 1 of sheet A.
+on-node-1 : (j : ℕ) → 1 ≤ j → j ≤ 2 → OnSheet A 1 j
+unfolding sheetA
+on-node-1 j from upTo = record { nodeFrom = omega arith; nodeTo = omega arith; streamFrom = from; streamTo = upTo }
+
+-- None of node 1's streams is ranked above the first, and the first alone above the second.
+highest : (i : ℕ) → OnSheet A 1 i → outranks (streamOf A 1 i) (streamOf A 1 1) ≡ true → ⊥
+unfolding sheetA outranks
+highest zero on e = omega (arith, on .streamFrom)
+highest (suc zero) on e = false≢true e
+highest (suc (suc zero)) on e = false≢true e
+highest (suc (suc (suc i))) on e = omega (arith, on .streamTo)
+
+only-first : (i : ℕ) → OnSheet A 1 i → outranks (streamOf A 1 i) (streamOf A 1 2) ≡ true → i ≡ 1
+unfolding sheetA outranks
+only-first zero on e = absurd (omega (arith, on .streamFrom))
+only-first (suc zero) on e = refl
+only-first (suc (suc zero)) on e = absurd (false≢true e)
+only-first (suc (suc (suc i))) on e = absurd (omega (arith, on .streamTo))
+
+-- The crowded log: in it stream 1 releases once, so that it keeps its period whatever the others do.
+once : KeepsPeriod A logCrowded 1 1
+unfolding sheetA logCrowded sum upTo
+once zero b s = absurd (omega (arith, s .first))
+once (suc zero) b s = absurd (omega (arith, s .first))
+once (suc (suc zero)) b s = absurd (omega (arith, s .first))
+once (suc (suc (suc zero))) b s = absurd (omega (arith, s .first))
+once (suc (suc (suc (suc a)))) b s = absurd (omega (arith, s .ordered, s .inLog))
+
+-- Between its first two turns node 1 has no other.
+next-turn : NextTurn A logCrowded 0 2
+unfolding sheetA logCrowded sum upTo firstIn first firstOnes outranks ofNode queuedBefore waiting beginsFrom serve nextNode nextBus turn start stateAt
+next-turn = record { ordered = omega arith; sameNode = refl; noneBetween = none }
+  where
+    none : (i : ℕ) → 0 < i → i < 2 → nodeOf A logCrowded i ≡ nodeOf A logCrowded 0 → ⊥
+    none zero low high e = omega arith
+    none (suc zero) low high e = omega arith
+    none (suc (suc i)) low high e = omega arith
+
+-- What demand 3 says of any words that the replay of the crowded log up to 18 wrote.
+pub record Crowded (words : List ℕ) : Type 0 where
+  -- every release has its word; the second has not begun
+  pub words0 : word words 0 ≡ 0
+  pub words1 : word words 1 ≡ notBegun
+  pub words2 : word words 2 ≡ 6
+  pub words3 : word words 3 ≡ 11
+  pub words4 : word words 4 ≡ 17
+  -- node 1's turns start at 0 and 17, and C is 17
+  pub cycleApart : startOf A logCrowded 2 ≤ startOf A logCrowded 0 + 17
+  -- node 2's turn has two messages, which is its budget
+  pub full : messagesOf A logCrowded words 1 ≤ 2
+  -- stream 1's message, released at 1, begins within 16 ticks, though the others break their periods
+  pub begun : word words 4 ≡ notBegun → ⊥
+  pub notEarlier : 1 ≤ word words 4
+  pub within : word words 4 ≤ 17
+
+pub crowded : (words : List ℕ) → WholeReplay A logCrowded 18 3 23 words → Crowded words
+unfolding
+    sheetA logCrowded sum upTo cycle firstIn first firstOnes streamsFrom outranks above mostReleases interference waitFor lateAt verdictAt search verdict verdictOf
+    ofNode queuedBefore waiting beginsFrom serve nextNode nextBus turn start stateAt
+crowded words whole =
+    let due : DueBefore A logCrowded 18 1 1 16 4 = record { inLog = omega arith; ofStream = refl; inTime = omega arith } in
+    let kept : PeriodsKept A logCrowded 1 1 = record { itself = once; rankedAbove = λ i on e. absurd (highest i on e) } in
+    let m : BeginsWithin logCrowded words 16 4 =
+    whole .withinWait 1 1 16 1 (on-node-1 1 (omega arith) (omega arith)) refl kept 4 due
+    in
+    record {
+      words0 = whole .everyRelease 0 (omega arith);
+      words1 = whole .everyRelease 1 (omega arith);
+      words2 = whole .everyRelease 2 (omega arith);
+      words3 = whole .everyRelease 3 (omega arith);
+      words4 = whole .everyRelease 4 (omega arith);
+      cycleApart = whole .oneCycleApart 0 2 next-turn (omega arith);
+      full = whole .withinBudget 1 (omega arith);
+      begun = m .written;
+      notEarlier = m .notEarlier;
+      within = m .within;
+    }
+
+-- Demand 3 counts the turns and names the next tick: of the crowded log up to 18 there are three, and the next would start at 23.
+crowded-three : TurnsBefore A logCrowded 18 3
+unfolding sheetA logCrowded sum upTo firstIn first firstOnes outranks ofNode queuedBefore waiting beginsFrom serve nextNode nextBus turn start stateAt
+crowded-three = record { started = started; ended = omega arith }
+  where
+    started : (i : ℕ) → i < 3 → startOf A logCrowded i < 18
+    started zero h = omega arith
+    started (suc zero) h = omega arith
+    started (suc (suc zero)) h = omega arith
+    started (suc (suc (suc i))) h = absurd (omega arith)
+
+pub crowded-turns : (turns next : ℕ) (words : List ℕ) → WholeReplay A logCrowded 18 turns next words → (turns ≡ 3) × (next ≡ 23)
+unfolding sheetA logCrowded sum upTo firstIn first firstOnes outranks ofNode queuedBefore waiting beginsFrom serve nextNode nextBus turn start stateAt
+crowded-turns turns next words whole =
+    let three : turns ≡ 3 = turns-unique (whole .turnsCounted) crowded-three in
+    (three, whole .nextStart ∙ ap (startOf A logCrowded) three)
+
+-- The periodic log: stream 1 releases at 0 and 40, its period apart, and stream 2 once.
+apart : KeepsPeriod A logPeriodic 1 1
+unfolding sheetA logPeriodic sum upTo
+apart zero b s = later b (s .ordered) (s .inLog) (s .second)
+  where
+    later : (b : ℕ) → 0 < b → b < 5 → word logPeriodic (2 * b + 1) ≡ 1 → 40 ≤ word logPeriodic (2 * b)
+    later zero low high e = absurd (omega arith)
+    later (suc zero) low high e = absurd (omega arith)
+    later (suc (suc zero)) low high e = absurd (omega arith)
+    later (suc (suc (suc zero))) low high e = absurd (omega arith)
+    later (suc (suc (suc (suc zero)))) low high e = omega arith
+    later (suc (suc (suc (suc (suc b))))) low high e = absurd (omega arith)
+apart (suc zero) b s = absurd (omega (arith, s .first))
+apart (suc (suc zero)) b s = absurd (omega (arith, s .first))
+apart (suc (suc (suc zero))) b s = absurd (omega (arith, s .first))
+apart (suc (suc (suc (suc a)))) b s = absurd (omega (arith, s .ordered, s .inLog))
+
+once-second : KeepsPeriod A logPeriodic 1 2
+unfolding sheetA logPeriodic sum upTo
+once-second zero b s = absurd (omega (arith, s .first))
+once-second (suc zero) b s = absurd (omega (arith, s .first))
+once-second (suc (suc zero)) b s = absurd (omega (arith, s .first))
+once-second (suc (suc (suc zero))) b s = last b (s .ordered) (s .inLog) (s .second)
+  where
+    last : (b : ℕ) → 3 < b → b < 5 → word logPeriodic (2 * b + 1) ≡ 2 → 61 ≤ word logPeriodic (2 * b)
+    last zero low high e = absurd (omega arith)
+    last (suc zero) low high e = absurd (omega arith)
+    last (suc (suc zero)) low high e = absurd (omega arith)
+    last (suc (suc (suc zero))) low high e = absurd (omega arith)
+    last (suc (suc (suc (suc zero)))) low high e = absurd (omega arith)
+    last (suc (suc (suc (suc (suc b))))) low high e = absurd (omega arith)
+once-second (suc (suc (suc (suc a)))) b s = absurd (omega (arith, s .ordered, s .inLog))
+
+-- What demand 3 says of any words that the replay of the periodic log up to 57 wrote: of stream 2, whose J is 2, and of stream 1, whose
+-- second message is due a tick before the horizon.
+pub record Periodic (words : List ℕ) : Type 0 where
+  pub second : BeginsWithin logPeriodic words 33 3
+  pub first : BeginsWithin logPeriodic words 16 4
+
+pub periodic : (turns next : ℕ) (words : List ℕ) → WholeReplay A logPeriodic 57 turns next words → Periodic words
+unfolding sheetA logPeriodic sum upTo cycle streamsFrom outranks above mostReleases interference waitFor lateAt verdictAt search verdict verdictOf
+periodic turns next words whole =
+    record {
+      second =
+          whole .withinWait 1 2 33 2 (on-node-1 2 (omega arith) (omega arith)) refl
+          (record { itself = once-second; rankedAbove = λ i on e. rw (only-first i on e) apart })
+          3
+          (record { inLog = omega arith; ofStream = refl; inTime = omega arith });
+      first =
+          whole .withinWait 1 1 16 1 (on-node-1 1 (omega arith) (omega arith)) refl
+          (record { itself = apart; rankedAbove = λ i on e. absurd (highest i on e) })
+          4
+          (record { inLog = omega arith; ofStream = refl; inTime = omega arith });
+    }
+
+-- Demand 3 about these replays, with the numbers that they answer.
+pub crowded-replay : Crowded (0 ∷ notBegun ∷ 6 ∷ 11 ∷ 17 ∷ [])
+unfolding
+    sheetA logCrowded sum upTo cycle firstIn first firstOnes refuseIf _orElse_ firstOf outside
+    rowWrong rowRefusal streamWrong streamRefusal bodyRefusal headerRefusal sheetRefusal
+    outranks ofNode queuedBefore waiting beginsFrom serve nextNode nextBus turn start run replayed
+    roomRefusal tickBefore releaseRefusal logRefusal horizonRefusal replayAnswer
+crowded-replay = crowded (0 ∷ notBegun ∷ 6 ∷ 11 ∷ 17 ∷ []) (demand3 A logCrowded 18 refl)
+
+pub periodic-replay : Periodic (0 ∷ 6 ∷ 11 ∷ 17 ∷ 40 ∷ [])
+unfolding
+    sheetA logPeriodic sum upTo cycle firstIn first firstOnes refuseIf _orElse_ firstOf outside
+    rowWrong rowRefusal streamWrong streamRefusal bodyRefusal headerRefusal sheetRefusal
+    outranks ofNode queuedBefore waiting beginsFrom serve nextNode nextBus turn start run replayed
+    roomRefusal tickBefore releaseRefusal logRefusal horizonRefusal replayAnswer
+periodic-replay = periodic 32 57 (0 ∷ 6 ∷ 11 ∷ 17 ∷ 40 ∷ []) (demand3 A logPeriodic 57 refl)
+
+-- Sheet A with the deadline 37 for node 1's second stream.
+abbrev A37 : List ℕ
+A37 = sheetA 40 37
+
+on-37 : (j : ℕ) → 1 ≤ j → j ≤ 2 → OnSheet A37 1 j
+unfolding sheetA
+on-37 j from upTo = record { nodeFrom = omega arith; nodeTo = omega arith; streamFrom = from; streamTo = upTo }
+
+-- Demand 2 about node 1's second stream: on sheet A it has the wait 33 at J = 2, has a place in its turn, and is not late; with the
+-- deadline 37 it is late and has no wait. And about all streams: admit writes 33 for it, or refuses there, with the first in time.
+pub record Second : Type 0 where
+  pub listed : StreamWait A 1 2 2 33
+  pub placed : 1 ≤ interference (higherStreams A 1 2) 33
+  pub notLate : StreamLate A 1 2 → ⊥
+  pub late : StreamLate A37 1 2
+  pub noWait : (J wait : ℕ) → StreamWait A37 1 2 J wait → ⊥
+  pub admitted : (J : ℕ) × StreamWait A 1 2 J 33
+  pub refused : OnSheet A37 1 2 × StreamLate A37 1 2
+  pub before : (J wait : ℕ) × StreamWait A37 1 1 J wait
+
+pub second : Second
+unfolding
+    sheetA sum upTo cycle refuseIf _orElse_ firstOf outside
+    rowWrong rowRefusal streamWrong streamRefusal bodyRefusal headerRefusal sheetRefusal
+    streamsFrom outranks above mostReleases interference waitFor lateAt verdictAt search verdict verdictOf
+    unknownRefusal verdictAnswer oneStreamAnswer roomRefusal lateRefusal nodeLateRefusal waitWord waitsFrom nodeWaitsFrom bufferAfter admitAnswer admitBuffer
+second =
+    let judged = demand2 .oneStream A refl 1 2 (on-node-1 2 (omega arith) (omega arith)) in
+    let judged37 = demand2 .oneStream A37 refl 1 2 (on-37 2 (omega arith) (omega arith)) in
+    let all = demand2 .admission A (9 ∷ 9 ∷ 9 ∷ []) refl (omega arith) in
+    let all37 = demand2 .admission A37 (9 ∷ 9 ∷ 9 ∷ []) refl (omega arith) in
+    let listed : StreamWait A 1 2 2 33 = judged .listed 33 2 .0 refl in
+    record {
+      listed = listed;
+      placed = judged .placed 33 2 listed;
+      notLate = λ late. omega (arith, ap (λ (a : Answer). a .number) (judged .late .1 late));
+      late = judged37 .late .0 refl;
+      noWait = λ J wait h. omega (arith, ap (λ (a : Answer). a .number) (judged37 .listed wait J .1 h));
+      admitted = all .admitted refl 1 2 (on-node-1 2 (omega arith) (omega arith));
+      refused = all37 .refused refl;
+      before = all37 .first refl 1 1 (on-37 1 (omega arith) (omega arith)) (omega arith);
+    }
+
+-- Stepping applied: three steps from (0, 1, 0) over a buffer a word longer than the crowded log are its replay up to 18.
+pub crowded-steps : stepped A logCrowded 3 (inFront (9 ∷ []) (start logCrowded))
+    ≡ record { bus = record { tick = 23; node = 2; turns = 3 }; begins = 0 ∷ notBegun ∷ 6 ∷ 11 ∷ 17 ∷ 9 ∷ [] }
+unfolding
+    sheetA logCrowded sum upTo cycle firstIn first firstOnes refuseIf _orElse_ firstOf outside
+    rowWrong rowRefusal streamWrong streamRefusal bodyRefusal headerRefusal sheetRefusal
+    outranks ofNode queuedBefore waiting beginsFrom serve nextNode nextBus turn start stateAt
+    tickBefore releaseRefusal logRefusal
+crowded-steps = stepping A logCrowded (9 ∷ []) refl refl 3 (omega arith)

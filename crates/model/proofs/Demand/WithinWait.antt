@@ -1,0 +1,89 @@
+-- Every message of a stream with a listed wait begins within that wait: the theorem about ranked nodes, on the line of its node, with
+-- turns at most a full cycle apart and the interference of the streams above. Assumes nothing.
+use Prim.Native.Nat.{ℕ, _-_, _*_, _≤_, _<_}
+use mathlib.Core.Path.{_≡_}
+use mathlib.Core.Bool.{true}
+use mathlib.Core.List.{List}
+use native.Mathlib.Omega.{arith}
+use native.Mathlib.Nat.{le-refl, one-le-mul}
+use Rattle.model.specs.declared.Verdict.the-variants.{Listed}
+use Rattle.model.specs.Limits.{notBegun}
+use Rattle.model.specs.Sheet.{word, messageTicks, streamCount, budget, period, deadline, cycle, runningNumber, OnSheet}
+use Rattle.model.specs.Analysis.{interference, waitFor, higherStreams, timingOf, verdictOf}
+use Rattle.model.specs.Protocol.{releases, releaseTick, releaseStream, ofNode, stateAt, startOf}
+use Rattle.model.specs.Demand.{StreamWait, PeriodsKept, BeginsWithin, DueBefore}
+use Rattle.model.proofs.Sheet.ValidSheet.{SheetFits}
+use Rattle.model.proofs.Sheet.NodeSums.{cycle-least}
+use Rattle.model.proofs.Analysis.Wait.{in-time-cycles}
+use Rattle.model.proofs.Analysis.StreamVerdict.{stream-exact}
+use Rattle.model.proofs.Protocol.Queue.{ofNode-reading}
+use Rattle.model.proofs.Demand.Accepted.{Replay}
+use Rattle.theory.proofs.Line.{IsServed}
+use Rattle.theory.proofs.Sums.{sumTo-split}
+use Rattle.theory.proofs.Ranked.{Ranked, BeganInTime, cycles-sooner, ranked-began, ranked-waits}
+use Rattle.model.proofs.Demand.NodeLine.{lineOf, line-served}
+use Rattle.model.proofs.Demand.Distance.{turn-in-cycle, near-cycles}
+use Rattle.model.proofs.Demand.ClassStreams.{class-came}
+
+-- A message of a stream of node k is one of the node's.
+own-message : {s : List ℕ} {k j : ℕ} (n : ℕ) → OnSheet s k j → n ≡ runningNumber s k j → ofNode s k n ≡ true
+own-message {s} {k} n on e =
+    ofNode-reading s k n .1 (omega (arith, sumTo-split (streamCount s) k (on .nodeFrom), on .streamFrom, on .streamTo))
+
+-- What the theorem about ranked nodes asks of a message. (J cycles are within the deadline, and so within the period.)
+ranked : {s log : List ℕ} {k j J wait M : ℕ} (turns : ℕ)
+    → SheetFits s
+    → OnSheet s k j
+    → StreamWait s k j J wait
+    → PeriodsKept s log k j
+    → M < releases log
+    → releaseStream log M ≡ runningNumber s k j
+    → Ranked (lineOf s log k turns) (λ d. d * cycle s) J (interference (higherStreams s k j) (J * cycle s - 1)) M
+ranked {s} {log} {k} {j} {J} {M} turns fits on listed kept inLog ofStream =
+    let one = listed .least .fromOne in
+    let some : 1 ≤ J * cycle s = one-le-mul one (omega (arith, cycle-least s fits)) in
+    let room : budget s k * messageTicks s ≤ cycle s = omega (arith, turn-in-cycle s k (on .nodeFrom) (on .nodeTo)) in
+    let H : ℕ → ℕ = interference (higherStreams s k j) in
+    let cycles = in-time-cycles H (timingOf s k) (deadline s k j) J (fits .header .messageFrom) (listed .inTime) in
+    let short : J * cycle s ≤ period s k j = omega (arith, cycles, fits .streams k j on .deadlineTo) in
+    record {
+      inLog = inLog;
+      own = own-message (releaseStream log M) on ofStream;
+      fromOne = one;
+      near = near-cycles fits log k (on .nodeFrom) (on .nodeTo) turns;
+      sooner = λ d h. cycles-sooner (cycle s) (budget s k * messageTicks s) J d room h;
+      suffices = listed .least .suffices;
+      most = λ lo h. class-came turns M fits on kept ofStream lo (J * cycle s) some short;
+    }
+
+-- A message that is due before the horizon begins within the listed wait of its stream: had it not begun, the next turn would
+-- start before the horizon.
+pub begins-within-wait : {s log : List ℕ} {horizon turns k j wait J : ℕ}
+    → Replay s log horizon turns
+    → OnSheet s k j
+    → verdictOf s k j ≡ Listed wait J
+    → PeriodsKept s log k j
+    → (i : ℕ)
+    → DueBefore s log horizon k j wait i
+    → BeginsWithin log (stateAt s log turns .begins) wait i
+unfolding waitFor
+begins-within-wait {s} {log} {horizon} {turns} {k} {j} {wait} {J} r on verdict kept i due =
+    record { written = begun; notEarlier = omega (arith, in-time .notEarlier); within = omega (arith, in-time .within, listed .wait) }
+  where
+    listed : StreamWait s k j J wait
+    listed = stream-exact s k j (omega (arith, cycle-least s (r .fits))) .listed wait J .0 verdict
+
+    served : IsServed (lineOf s log k turns)
+    served = line-served r k (on .nodeFrom)
+
+    message : Ranked (lineOf s log k turns) (λ d. d * cycle s) J (interference (higherStreams s k j) (J * cycle s - 1)) i
+    message = ranked turns (r .fits) on listed kept (due .inLog) (due .ofStream)
+
+    begun : word (stateAt s log turns .begins) i ≡ notBegun → ⊥
+    begun w =
+        let late : releaseTick log i ≤ startOf s log turns = omega (arith, due .inTime, r .counted .ended) in
+        let next = ranked-waits served message turns (le-refl turns) w late in
+        omega (arith, due .inTime, r .counted .ended, listed .wait)
+
+    in-time : BeganInTime (lineOf s log k turns) (λ d. d * cycle s) J (interference (higherStreams s k j) (J * cycle s - 1)) i turns
+    in-time = ranked-began served message turns (le-refl turns) begun

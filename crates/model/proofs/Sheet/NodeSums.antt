@@ -1,0 +1,62 @@
+-- Sums over the nodes of a valid sheet: streams up to a node, budgets, and the full cycle. Assumes nothing.
+use Prim.Native.Nat.{ℕ, suc, _+_, _*_, _≤_, _<_}
+use native.Mathlib.Nat.{mul-le-mul}
+use native.Mathlib.Numerals.{add-one}
+use native.Mathlib.Omega.{arith}
+use mathlib.Core.Path.{_≡_}
+use mathlib.Core.List.{List}
+use lib.ListN.{length}
+use Rattle.theory.proofs.Sums.{sumTo-next, sumTo-grows, sumTo-most, sumTo-least}
+use Rattle.model.specs.Limits.{maxStreams, maxBudget, streamWords, longestSheet}
+use Rattle.model.specs.Sheet.{nodes, streamCount, budget, streamsUpTo, totalStreams, budgetsUpTo, cycle, contentsWords, bodyPlace}
+use Rattle.model.proofs.Sheet.ValidSheet.{SheetFits}
+
+module _ (s : List ℕ) (fits : SheetFits s) where
+  -- Sixteen nodes of sixteen streams at most.
+  pub total-most : totalStreams s ≤ 256
+  total-most =
+      let sum = sumTo-most (streamCount s) maxStreams (nodes s) (λ k low high. fits .rows k low high .streamsTo) in
+      omega (arith, sum, fits .header .nodesTo)
+
+  -- No valid sheet is longer than the longest.
+  pub sheet-longest : length s ≤ longestSheet
+  sheet-longest = omega (arith, fits .whole, total-most, fits .header .nodesTo)
+
+  -- "C" is at least 2: a message and a slot.
+  pub cycle-least : 2 ≤ cycle s
+  unfolding cycle
+  cycle-least =
+      let h = fits .header in
+      let each = sumTo-least (budget s) (nodes s) (λ k low high. fits .rows k low high .budgetFrom) in
+      let sum : 1 ≤ budgetsUpTo s (nodes s) = omega (arith, each, h .nodesFrom) in
+      omega (arith, mul-le-mul sum (h .messageFrom), mul-le-mul (h .nodesFrom) (h .slotFrom))
+
+  -- The budgets of all nodes together: sixteen of sixteen at most.
+  pub budgets-most : budgetsUpTo s (nodes s) ≤ 256
+  budgets-most =
+      omega (arith, sumTo-most (budget s) maxBudget (nodes s) (λ k low high. fits .rows k low high .budgetTo), fits .header .nodesTo)
+
+  -- "C" at most: 16 nodes of 16 messages of 10,000 ticks, and 16 slots.
+  pub cycle-most : cycle s ≤ 2_720_000
+  unfolding cycle
+  cycle-most =
+      let h = fits .header in
+      omega (arith, mul-le-mul budgets-most (h .messageTo), mul-le-mul (h .nodesTo) (h .slotTo))
+
+-- The streams before the next node and its own are those up to it,
+pub streams-next : (s : List ℕ) (i : ℕ) {sum count : ℕ}
+    → sum ≡ streamsUpTo s i
+    → count ≡ streamCount s (i + 1)
+    → sum + count ≡ streamsUpTo s (i + 1)
+streams-next s i {sum} {count} e f = rw (add-one i) (omega (arith, e, rw (add-one i) at f, sumTo-next (streamCount s) i))
+
+-- so that the next body stands after theirs,
+pub body-next : (s : List ℕ) (i : ℕ) {at : ℕ}
+    → at ≡ contentsWords s + streamWords * streamsUpTo s i
+    → at ≡ bodyPlace s (i + 1)
+body-next s i e = rw (add-one i) e
+
+-- and they are not more than all.
+pub streams-room : (s : List ℕ) (i : ℕ) → i < nodes s → streamsUpTo s i + streamCount s (i + 1) ≤ totalStreams s
+streams-room s i inside =
+    rw (add-one i) (omega (arith, sumTo-next (streamCount s) i, sumTo-grows (streamCount s) (suc i) (nodes s) inside))

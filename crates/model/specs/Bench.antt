@@ -1,0 +1,32 @@
+-- "Bench sheets": the sheets and logs of P1 to P12, and logs to which the demands are applied. Rules 10. Assumes nothing.
+use Prim.Native.Nat.{ℕ}
+use mathlib.Core.List.{List, [], _∷_}
+
+-- "Sheet A", with the period and deadline of node 1's first stream and the deadline of its second as they vary.
+unfoldable pub sheetA : ℕ → ℕ → List ℕ
+sheetA first second =
+    2 ∷ 5 ∷ 1 ∷ 9 ∷ 2 ∷ 1 ∷ 13 ∷ 1 ∷ 2 ∷ first ∷ first ∷ 60 ∷ second ∷ 30 ∷ 30 ∷ []
+
+-- Sheet A where "node 2 gets a second stream 50 50".
+unfoldable pub sheetA6 : List ℕ
+sheetA6 = 2 ∷ 5 ∷ 1 ∷ 9 ∷ 2 ∷ 1 ∷ 13 ∷ 2 ∷ 2 ∷ 40 ∷ 40 ∷ 60 ∷ 60 ∷ 30 ∷ 30 ∷ 50 ∷ 50 ∷ []
+
+-- "one node, TMS 5, TPR 1, budget 1", with two streams, the second 100 100.
+unfoldable pub sheetP7 : ℕ → List ℕ
+sheetP7 first = 1 ∷ 5 ∷ 1 ∷ 6 ∷ 2 ∷ 1 ∷ first ∷ first ∷ 100 ∷ 100 ∷ []
+
+-- The logs of P9 and of P11.
+unfoldable pub logP9 : List ℕ
+logP9 = 0 ∷ 1 ∷ 0 ∷ 2 ∷ 1 ∷ 3 ∷ []
+
+unfoldable pub logP11 : List ℕ
+logP11 = 0 ∷ 2 ∷ 0 ∷ 3 ∷ 0 ∷ 3 ∷ 1 ∷ 1 ∷ []
+
+-- On sheet A: the second stream of node 1 and the only one of node 2 break their periods at tick 0, and the first of node 1 releases
+-- just after its turn has started.
+unfoldable pub logCrowded : List ℕ
+logCrowded = 0 ∷ 2 ∷ 0 ∷ 2 ∷ 0 ∷ 3 ∷ 0 ∷ 3 ∷ 1 ∷ 1 ∷ []
+
+-- On sheet A: the first stream of node 1 releases twice, its period apart to the tick, and its second stream once.
+unfoldable pub logPeriodic : List ℕ
+logPeriodic = 0 ∷ 1 ∷ 0 ∷ 3 ∷ 0 ∷ 3 ∷ 1 ∷ 2 ∷ 40 ∷ 1 ∷ []

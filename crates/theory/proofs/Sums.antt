@@ -1,0 +1,116 @@
+-- Sums: they grow with their terms and with their lists, and are the same by parts. Assumes nothing.
+use Prim.Native.Nat.{ℕ, zero, suc, pred, _+_, _*_, _≤_, _<_, zero-le}
+use native.Mathlib.Nat.{le-refl, add-mul}
+use native.Mathlib.Numerals.{add-one}
+use native.Mathlib.Decide.{le-ind}
+use native.Mathlib.Omega.{arith}
+use mathlib.Core.Path.{_≡_, refl, sym, ap}
+use mathlib.Core.Logic.{⊎-elim}
+use mathlib.Core.List.{List, [], _∷_, map, List·Memᴰ, List·Memᴰ·head, List·Memᴰ·tail, List·Memᴰ·cases-cons, List·Memᴰ·not-nil}
+use lib.ListN.{length, getD, drop, drop-of-length-le}
+use lib.Seq.{drop-cons}
+use Rattle.theory.specs.Sum.{sum, upTo, sumTo}
+
+module _ {A : Type 0} where
+  -- Larger terms have no smaller sum.
+  pub sum-mono : (f g : A → ℕ) (ys : List A) → ((y : A) → List·Memᴰ y ys → f y ≤ g y) → sum f ys ≤ sum g ys
+  unfolding sum
+  sum-mono f g [] more = zero-le
+  sum-mono f g (y ∷ ys) more =
+      omega (arith, more y (List·Memᴰ·head refl), sum-mono f g ys (λ z m. more z (List·Memᴰ·tail m)))
+
+  -- A sum of sums is the sum of both,
+  pub sum-plus : (f g : A → ℕ) (ys : List A) → sum (λ y. f y + g y) ys ≡ sum f ys + sum g ys
+  unfolding sum
+  sum-plus f g [] = refl
+  sum-plus f g (y ∷ ys) = omega (arith, sum-plus f g ys)
+
+  -- a factor comes out of a sum,
+  pub sum-scale : (f : A → ℕ) (c : ℕ) (ys : List A) → sum (λ y. f y * c) ys ≡ sum f ys * c
+  unfolding sum
+  sum-scale f c [] = omega arith
+  sum-scale f c (y ∷ ys) = rw (sum-scale f c ys) (sym (add-mul (f y) (sum f ys) c))
+
+  -- and a sum of one number for each is that number times as many.
+  pub sum-const : (c : ℕ) (ys : List A) → sum (λ (y : A). c) ys ≡ length ys * c
+  unfolding sum
+  sum-const c [] = omega arith
+  sum-const c (y ∷ ys) = omega (arith, sum-const c ys)
+
+-- The sum over what a list is made into.
+pub sum-map : {A B : Type 0} (f : B → ℕ) (g : A → B) (ys : List A) → sum f (map g ys) ≡ sum (λ y. f (g y)) ys
+unfolding sum
+sum-map f g [] = refl
+sum-map f g (y ∷ ys) = ap (λ (n : ℕ). f (g y) + n) (sum-map f g ys)
+
+module _ (f : ℕ → ℕ) where
+  -- Up to 0 there is nothing to add.
+  pub sumTo-none : sumTo f 0 ≡ 0
+  unfolding sum upTo
+  sumTo-none = refl
+
+  -- One number more.
+  pub sumTo-next : (n : ℕ) → sumTo f (suc n) ≡ sumTo f n + f (suc n)
+  unfolding sum upTo
+  sumTo-next n = omega arith
+
+  -- The sum up to a number is that before it and its own term.
+  pub sumTo-split : (n : ℕ) → 1 ≤ n → sumTo f n ≡ sumTo f (pred n) + f n
+  sumTo-split zero h = absurd (omega arith)
+  sumTo-split (suc n) h = sumTo-next n
+
+  -- A sum up to a later number is no smaller.
+  pub sumTo-grows : (a b : ℕ) → a ≤ b → sumTo f a ≤ sumTo f b
+  sumTo-grows a b h = le-ind (λ m. sumTo f a ≤ sumTo f m) (le-refl _) (λ m from ih. omega (arith, sumTo-next m)) b h
+
+-- The numbers from 1 to n are in range,
+pub upTo-range : (n k : ℕ) → List·Memᴰ k (upTo n) → (1 ≤ k) × (k ≤ n)
+unfolding upTo
+upTo-range zero k m = absurd (List·Memᴰ·not-nil m)
+upTo-range (suc n) k m =
+    ⊎-elim
+    (λ e. (omega arith, omega arith))
+    (λ l. let h = upTo-range n k l in (h .0, omega arith))
+    (List·Memᴰ·cases-cons m)
+
+-- and they are n.
+pub upTo-length : (n : ℕ) → length (upTo n) ≡ n
+unfolding upTo
+upTo-length zero = refl
+upTo-length (suc n) = ap suc (upTo-length n)
+
+-- Terms that are at most a number have at most so many times that number,
+pub sumTo-most : (f : ℕ → ℕ) (most n : ℕ) → ((k : ℕ) → 1 ≤ k → k ≤ n → f k ≤ most) → sumTo f n ≤ n * most
+sumTo-most f most n each =
+    omega (
+      arith,
+      sum-mono f (λ k. most) (upTo n) (λ k m. let h = upTo-range n k m in each k (h .0) (h .1)),
+      sum-const most (upTo n),
+      ap (λ (c : ℕ). c * most) (upTo-length n),
+    )
+
+-- and terms that are at least one have at least as many.
+pub sumTo-least : (f : ℕ → ℕ) (n : ℕ) → ((k : ℕ) → 1 ≤ k → k ≤ n → 1 ≤ f k) → n ≤ sumTo f n
+sumTo-least f n each =
+    omega (
+      arith,
+      sum-mono (λ k. 1) f (upTo n) (λ k m. let h = upTo-range n k m in each k (h .0) (h .1)),
+      sum-const 1 (upTo n),
+      upTo-length n,
+    )
+
+module _ (f : ℕ → ℕ) (xs : List ℕ) where
+  -- What is left of a sum from place i on: the next term is added,
+  pub sum-next : (i total : ℕ) {whole : ℕ}
+      → i < length xs
+      → total + sum f (drop i xs) ≡ whole
+      → total + f (getD xs i 0) + sum f (drop (i + 1) xs) ≡ whole
+  unfolding sum
+  sum-next i total inside same =
+      let one = drop-cons xs i 0 inside in
+      omega (arith, rw one at same, ap (λ n. sum f (drop n xs)) (add-one i))
+
+  -- and after the last the total is the whole.
+  pub sum-none : (i total : ℕ) {whole : ℕ} → length xs ≤ i → total + sum f (drop i xs) ≡ whole → total ≡ whole
+  unfolding sum
+  sum-none i total past same = let e = drop-of-length-le xs past in omega (arith, rw e at same)
