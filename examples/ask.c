@@ -1,29 +1,101 @@
-/* Asks the proved planner about sheet A from C: admission, one stream, a replayed log and one step. */
+/* Asks the proved planner about sheet A from C, once by every entry, and shows two refusals. It stops with exit status 1 where
+   an answer is not of the kind that it goes on with. */
+#include <inttypes.h>
 #include <stdio.h>
+#include <stdlib.h>
+#include <string.h>
 
 #include "wistorvan.h"
 
 #define WORDS(table) (table), sizeof(table) / sizeof(*(table))
 
-static void show(const char *what, struct wistorvan_answer a) {
-    printf("%s: %u %u %u\n", what, a.number, a.second, a.third);
+static const uint32_t sheet[] = {2, 5, 1, 9, 2, 1, 13, 1, 2, 40, 40, 60, 60, 30, 30};
+static const uint32_t releases[] = {0, 1, 0, 2, 1, 3};
+
+static void stop(const char *why, struct wistorvan_answer a) {
+    fprintf(stderr, "%s: %" PRIu32 " %" PRIu32 " %" PRIu32 "\n", why, a.number, a.second, a.third);
+    exit(EXIT_FAILURE);
+}
+
+/* Passes on an answer that must be a success. */
+static struct wistorvan_answer accepted(struct wistorvan_answer a) {
+    if (a.number != WISTORVAN_OK)
+        stop("refused", a);
+    return a;
+}
+
+static void show_words(const char *what, const uint32_t *words, size_t count) {
+    printf("%s:", what);
+    for (size_t i = 0; i < count; i++) {
+        if (words[i] == WISTORVAN_NOT_BEGUN)
+            printf(" -");
+        else
+            printf(" %" PRIu32, words[i]);
+    }
+    printf("\n");
+}
+
+static void show_refusal(const char *what, struct wistorvan_answer a) {
+    printf("%s: refused %" PRIu32 " at %" PRIu32 " %" PRIu32 ": ", what, a.number, a.second, a.third);
+    switch (a.number) {
+    case WISTORVAN_SHEET_TOO_SHORT:
+        printf("the sheet has fewer than 3 words\n");
+        break;
+    case WISTORVAN_LATE:
+        printf("stream %" PRIu32 " of node %" PRIu32 " would be late\n", a.third, a.second);
+        break;
+    default:
+        stop("not one of the two refusals asked for", a);
+    }
+}
+
+static void ask_before_running(void) {
+    struct wistorvan_answer a;
+    uint32_t waits[3];
+
+    accepted(wistorvan_check_sheet(WORDS(sheet)));
+    printf("sheet A: valid\n");
+    a = accepted(wistorvan_one_stream(WORDS(sheet), 1, 2));
+    printf("stream 2 of node 1: wait %" PRIu32 ", J %" PRIu32 "\n", a.second, a.third);
+    a = accepted(wistorvan_admit(WORDS(sheet), WORDS(waits)));
+    printf("admitted: %" PRIu32 " streams, cycle %" PRIu32 "\n", a.second, a.third);
+    show_words("waits", waits, a.second);
+}
+
+static void run_log(void) {
+    struct wistorvan_answer a;
+    struct wistorvan_bus bus = {0, 1, 0};
+    uint32_t begins[3];
+
+    a = accepted(wistorvan_replay(WORDS(sheet), WORDS(releases), 12, WORDS(begins)));
+    printf("replay to 12: %" PRIu32 " turns, next at %" PRIu32 "\n", a.second, a.third);
+    show_words("begins", WORDS(begins));
+
+    for (size_t i = 0; i < 3; i++)
+        begins[i] = WISTORVAN_NOT_BEGUN;
+    a = accepted(wistorvan_step(WORDS(sheet), WORDS(releases), &bus, WORDS(begins)));
+    printf("one step: %" PRIu32 " taken, next at %" PRIu32 "\n", a.second, a.third);
+    show_words("begins", WORDS(begins));
+    printf("next turn: tick %" PRIu32 ", node %" PRIu32 ", turns %" PRIu32 "\n", bus.tick, bus.node, bus.turns);
+}
+
+static void be_refused(void) {
+    struct wistorvan_answer a;
+    uint32_t late[sizeof sheet / sizeof *sheet];
+    uint32_t waits[3] = {7, 8, 9};
+
+    show_refusal("an empty sheet", wistorvan_check_sheet(NULL, 0));
+    memcpy(late, sheet, sizeof late);
+    late[12] = 37;
+    a = wistorvan_admit(WORDS(late), WORDS(waits));
+    if (waits[0] != 7 || waits[1] != 8 || waits[2] != 9)
+        stop("the room was changed by", a);
+    show_refusal("a deadline of 37", a);
 }
 
 int main(void) {
-    const uint32_t sheet[] = {2, 5, 1, 9, 2, 1, 13, 1, 2, 40, 40, 60, 60, 30, 30};
-    const uint32_t log[] = {0, 1, 0, 2, 1, 3};
-    uint32_t waits[3], begins[3];
-
-    show("admit", wistorvan_admit(WORDS(sheet), WORDS(waits)));
-    printf("waits: %u %u %u\n", waits[0], waits[1], waits[2]);
-    show("stream 2 of node 1", wistorvan_one_stream(WORDS(sheet), 1, 2));
-    show("replay to 40", wistorvan_replay(WORDS(sheet), WORDS(log), 40, WORDS(begins)));
-    printf("begins: %u %u %u\n", begins[0], begins[1], begins[2]);
-
-    struct wistorvan_bus bus = {0, 1, 0};
-    for (int i = 0; i < 3; i++)
-        begins[i] = WISTORVAN_NOT_BEGUN;
-    show("one step", wistorvan_step(WORDS(sheet), WORDS(log), &bus, WORDS(begins)));
-    printf("next turn: tick %u, node %u, turns %u\n", bus.tick, bus.node, bus.turns);
-    return 0;
+    ask_before_running();
+    run_log();
+    be_refused();
+    return EXIT_SUCCESS;
 }

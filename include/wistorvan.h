@@ -1,19 +1,60 @@
-/* The proved planner for C: link libwistorvan.a, which `rt staticlib wistorvan` writes to target/staticlib.
+/* The proved planner for C and C++: link libwistorvan.a, which `rt staticlib wistorvan` writes to target/staticlib.
 
    Every function answers any input and asks nothing of its caller beyond what C cannot check: each pointer must be good for
-   the number of words passed with it, a table that is written must not overlap another, and nothing else may write to a table
-   during the call. A refusal changes no word of any table and no field of the record. Nothing checks this header against the
-   Rattle source, crates/wistorvan/src/lib.rt. */
+   the number of words passed with it, a table that is written and the record must not overlap another table, and nothing else
+   may write to a table or the record during the call. With 0 words any pointer is good, NULL too. A refusal changes no word of
+   any table and no field of the record. Nothing is kept between calls.
+
+   No compiler holds these declarations to the Rattle source, crates/wistorvan/src/lib.rt; a test in rust/ compares their text. */
 #ifndef WISTORVAN_H
 #define WISTORVAN_H
 
 #include <stddef.h>
 #include <stdint.h>
 
+#ifdef __cplusplus
+extern "C" {
+#endif
+
 /* The word of a release that has not begun. */
 #define WISTORVAN_NOT_BEGUN UINT32_C(4294967295)
 
-/* Three numbers. Number 0 is success; any other is a refusal, and the two after it are its place. */
+/* The most streams of a sheet and releases of a log: rooms of so many words are always long enough. */
+#define WISTORVAN_MAX_STREAMS 256
+#define WISTORVAN_MAX_RELEASES 4096
+
+/* The first number of an answer, by name: success, or what is refused. Of all refusals that apply, the first in the order that
+   stands at each function is given. 11 to 15 are kept for later ones, so expect numbers that have no name here yet. */
+enum wistorvan_number {
+    /* Success. */
+    WISTORVAN_OK = 0,
+    /* The sheet has under 3 words. Place: 0, 0. */
+    WISTORVAN_SHEET_TOO_SHORT = 1,
+    /* n, the number of nodes, is not 1 to 16. Place: 0, 0. */
+    WISTORVAN_BAD_NODE_COUNT = 2,
+    /* TMS or TPR, the duration of a message or of a protocol slot in ticks, is not 1 to 10,000. Place: 0, 0. */
+    WISTORVAN_BAD_DURATION = 3,
+    /* The contents. First, the sheet has fewer than 3 + 3n words: place 0, 0. Then, node by node, a row has a wrong place of the
+       body, more than 16 streams or a budget that is not 1 to 16: place node, 0. Then, the total length is wrong: place 0, 0. */
+    WISTORVAN_BAD_CONTENTS = 4,
+    /* A period is not 1 to 1,000,000,000 or a deadline not 1 to its period, first in sheet order. Place: node, stream. */
+    WISTORVAN_BAD_STREAM = 5,
+    /* The room is shorter than one word a stream (admit) or a release (replay, step). Place: 0, 0. */
+    WISTORVAN_ROOM_TOO_SHORT = 6,
+    /* A stream is late: the first in sheet order (admit) or the asked one (one_stream). Place: node, stream. */
+    WISTORVAN_LATE = 7,
+    /* The sheet has no such stream (one_stream). Place: node, stream as asked. */
+    WISTORVAN_NO_SUCH_STREAM = 8,
+    /* The log. First, its length is odd, then, it has more than 4,096 releases: place 0, 0. Then, the first release with a tick
+       over 1,000,000,000, a tick below the one before or an unknown stream: place 0, release from 1. */
+    WISTORVAN_BAD_LOG = 9,
+    /* The horizon is over 1,000,000,000. Place: 0, 0. */
+    WISTORVAN_HORIZON_TOO_LARGE = 10,
+    /* The record's tick or turns are over 1,000,000,000, or its node is not 1 to n. Place: 0, 0. */
+    WISTORVAN_BAD_BUS = 16
+};
+
+/* Three numbers. Number 0 is success; any other is a refusal (enum wistorvan_number), and the two after it are its place. */
 struct wistorvan_answer {
     uint32_t number;
     uint32_t second;
@@ -27,7 +68,7 @@ struct wistorvan_bus {
     uint32_t turns;
 };
 
-/* Refusals 1 to 5 of a sheet, or 0 0 0 for a valid one. */
+/* Whether a sheet is valid: 0 0 0 if so. Refusals 1 to 5. */
 struct wistorvan_answer wistorvan_check_sheet(const uint32_t *sheet, size_t sheet_words);
 
 /* One stream of a node: its listed wait and J. Refusals 1 to 5, 8, 7. */
@@ -36,13 +77,19 @@ struct wistorvan_answer wistorvan_one_stream(const uint32_t *sheet, size_t sheet
 /* Number of streams and full cycle; the listed waits, in sheet order, in the first words of the room. Refusals 1 to 5, 6, 7. */
 struct wistorvan_answer wistorvan_admit(const uint32_t *sheet, size_t sheet_words, uint32_t *room, size_t room_words);
 
-/* Turns started and the tick the next would start; a begin tick for each release, in log order, in the first words of the room.
-   Refusals 1 to 5, 9, 10, 6. */
+/* Turns started and the tick the next would start; a begin tick for each release, in log order, in the first words of the room,
+   or WISTORVAN_NOT_BEGUN. Refusals 1 to 5, 9, 10, 6. */
 struct wistorvan_answer wistorvan_replay(const uint32_t *sheet, size_t sheet_words, const uint32_t *log, size_t log_words,
                                          uint32_t horizon, uint32_t *room, size_t room_words);
 
-/* One turn of the record's node: messages taken and the tick the next turn starts. Refusals 1 to 5, 9, 16, 6. */
+/* One turn of the record's node: messages taken and the tick the next turn starts. The room has a word for each release, in log
+   order: those that are WISTORVAN_NOT_BEGUN wait, and the begins of this turn are written. The record is set to the next turn.
+   Refusals 1 to 5, 9, 16, 6. */
 struct wistorvan_answer wistorvan_step(const uint32_t *sheet, size_t sheet_words, const uint32_t *log, size_t log_words,
                                        struct wistorvan_bus *bus, uint32_t *room, size_t room_words);
+
+#ifdef __cplusplus
+}
+#endif
 
 #endif

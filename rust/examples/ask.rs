@@ -1,29 +1,76 @@
-//! Asks the proved planner about sheet A from Rust: admission, one stream, a
-//! replayed log and one step.
+//! Asks the proved planner about sheet A from Rust, once by every function, and
+//! shows two refusals. It prints what examples/ask.c prints.
 
-use wistorvan::{admit, one_stream, replay, step, Answer, Bus, NOT_BEGUN};
+use wistorvan::{admit, begun, check_sheet, one_stream, replay, step};
+use wistorvan::{Bus, Reason, Refusal, MAX_STREAMS, NOT_BEGUN};
 
-fn show(what: &str, a: Answer) {
-    println!("{what}: {} {} {}", a.number, a.second, a.third);
+const SHEET_A: [u32; 15] = [2, 5, 1, 9, 2, 1, 13, 1, 2, 40, 40, 60, 60, 30, 30];
+const LOG: [u32; 6] = [0, 1, 0, 2, 1, 3];
+
+fn show(what: &str, words: &[u32]) {
+    let shown = words
+        .iter()
+        .map(|&word| begun(word).map_or("-".to_string(), |tick| tick.to_string()));
+    println!("{what}: {}", shown.collect::<Vec<_>>().join(" "));
 }
 
-fn main() {
-    let sheet = [2, 5, 1, 9, 2, 1, 13, 1, 2, 40, 40, 60, 60, 30, 30];
-    let log = [0, 1, 0, 2, 1, 3];
+fn ask_before_running() -> Result<(), Refusal> {
+    check_sheet(&SHEET_A)?;
+    println!("sheet A: valid");
+    let listed = one_stream(&SHEET_A, 1, 2)?;
+    println!(
+        "stream 2 of node 1: wait {}, J {}",
+        listed.wait, listed.cycles
+    );
+    let mut room = [0; MAX_STREAMS];
+    let admission = admit(&SHEET_A, &mut room)?;
+    println!(
+        "admitted: {} streams, cycle {}",
+        admission.waits.len(),
+        admission.cycle
+    );
+    show("waits", admission.waits);
+    Ok(())
+}
 
-    let mut waits = [0; 3];
-    show("admit", admit(&sheet, &mut waits));
-    println!("waits: {} {} {}", waits[0], waits[1], waits[2]);
-    show("stream 2 of node 1", one_stream(&sheet, 1, 2));
-    let mut begins = [0; 3];
-    show("replay to 40", replay(&sheet, &log, 40, &mut begins));
-    println!("begins: {} {} {}", begins[0], begins[1], begins[2]);
+fn run_log() -> Result<(), Refusal> {
+    let mut room = [0; LOG.len() / 2];
+    let replayed = replay(&SHEET_A, &LOG, 12, &mut room)?;
+    println!(
+        "replay to 12: {} turns, next at {}",
+        replayed.turns, replayed.next
+    );
+    show("begins", replayed.begins);
 
     let mut bus = Bus::START;
-    let mut begins = [NOT_BEGUN; 3];
-    show("one step", step(&sheet, &log, &mut bus, &mut begins));
+    let mut begins = [NOT_BEGUN; LOG.len() / 2];
+    let stepped = step(&SHEET_A, &LOG, &mut bus, &mut begins)?;
+    println!(
+        "one step: {} taken, next at {}",
+        stepped.taken, stepped.next
+    );
+    show("begins", &begins);
     println!(
         "next turn: tick {}, node {}, turns {}",
         bus.tick, bus.node, bus.turns
     );
+    Ok(())
+}
+
+fn be_refused() {
+    let empty = check_sheet(&[]).expect_err("an empty sheet is refused");
+    println!("an empty sheet: {empty}");
+
+    let mut sheet = SHEET_A;
+    sheet[12] = 37;
+    let late = admit(&sheet, &mut [0; MAX_STREAMS]).expect_err("the stream is late");
+    assert_eq!(late.reason(), Reason::Late);
+    println!("a deadline of 37: {late}");
+}
+
+fn main() -> Result<(), Refusal> {
+    ask_before_running()?;
+    run_log()?;
+    be_refused();
+    Ok(())
 }

@@ -1,33 +1,113 @@
-//! The proved library for Rust programs: a safe face over the static library
-//! that `rt staticlib wistorvan` writes.
+//! The proved planner for slot-skipping (TDMA/SS) buses, for Rust programs: a
+//! safe face over the static library that `rt staticlib wistorvan` writes.
 //!
-//! What this boundary assumes, since nothing checks it against the Rattle
-//! source: that the declarations below are those of crates/wistorvan; that a
-//! lent table passes as a pointer to its words and then their number; and
-//! that an answer comes back as three 32-bit words in C's layout. The library
-//! asks nothing of its caller, so there is nothing to test before a call.
+//! A sheet describes a bus and its message streams. The planner says whether
+//! every stream meets its deadline, lists each stream's longest wait, and
+//! replays a log of releases:
+//!
+//! ```
+//! # fn main() -> Result<(), wistorvan::Refusal> {
+//! // Two nodes; a message takes 5 ticks, a protocol slot 1. Node 1 has two
+//! // streams and a budget of 1, node 2 one stream and a budget of 2.
+//! let sheet = [2, 5, 1, 9, 2, 1, 13, 1, 2, 40, 40, 60, 60, 30, 30];
+//!
+//! let mut room = [0; wistorvan::MAX_STREAMS];
+//! let admission = wistorvan::admit(&sheet, &mut room)?;
+//! assert_eq!(admission.waits, [16, 33, 16]);
+//! assert_eq!(admission.cycle, 17);
+//! # Ok(())
+//! # }
+//! ```
+//!
+//! Sheets and logs are tables of words, laid out as the repository's README
+//! says. Every function takes any tables: what is wrong with them comes back
+//! as a [`Refusal`] with a [`Reason`], a place and a sentence, and then no lent
+//! word has changed. Of all refusals that apply, the first in the order that
+//! stands at each function is given. [`raw`] has the same functions with the
+//! plain three numbers.
+//!
+//! # Linking
+//!
+//! The build looks for libwistorvan.a in the folder that the environment
+//! variable `WISTORVAN_LIB_DIR` names (a relative name starts at this crate's
+//! folder), or else in target/staticlib of the repository. The library is for
+//! x86-64 Linux.
 
-/// Document 01's three numbers. Number 0 is success.
-#[repr(C)]
-#[derive(Clone, Copy, PartialEq, Eq, Debug)]
-pub struct Answer {
-    pub number: u32,
-    pub second: u32,
-    pub third: u32,
+#![deny(missing_docs)]
+
+pub mod raw;
+mod refusal;
+
+pub use refusal::{Reason, Refusal};
+
+/// The word of a release that has not begun. [`begun`] reads such words.
+///
+/// ```
+/// // Before horizon 0 no turn starts.
+/// let mut room = [7; 1];
+/// let replayed = wistorvan::replay(&[1, 5, 1, 6, 1, 1, 10, 10], &[0, 1], 0, &mut room).unwrap();
+/// assert_eq!(replayed.begins, [wistorvan::NOT_BEGUN]);
+/// ```
+pub const NOT_BEGUN: u32 = 4294967295;
+
+/// The most streams of a sheet: a room of so many words is long enough for
+/// [`admit`].
+///
+/// ```
+/// let mut room = [0; wistorvan::MAX_STREAMS];
+/// assert!(wistorvan::admit(&[1, 5, 1, 6, 1, 1, 10, 10], &mut room).is_ok());
+/// ```
+pub const MAX_STREAMS: usize = 256;
+
+/// The most releases of a log: a room of so many words is long enough for
+/// [`replay`] and [`step`].
+///
+/// ```
+/// let mut room = [0; wistorvan::MAX_RELEASES];
+/// assert!(wistorvan::replay(&[1, 5, 1, 6, 1, 1, 10, 10], &[2, 1], 4, &mut room).is_ok());
+/// ```
+pub const MAX_RELEASES: usize = 4096;
+
+/// The begin tick that a word of a room stands for, if the release has begun.
+///
+/// ```
+/// use wistorvan::{begun, NOT_BEGUN};
+///
+/// assert_eq!(begun(12), Some(12));
+/// assert_eq!(begun(NOT_BEGUN), None);
+/// ```
+#[must_use]
+pub const fn begun(word: u32) -> Option<u32> {
+    match word {
+        NOT_BEGUN => None,
+        tick => Some(tick),
+    }
 }
 
-/// The bus between two turns: the tick at which a node's turn starts, and how
-/// many turns have gone before it.
+/// The bus between two turns.
+///
+/// ```
+/// use wistorvan::Bus;
+///
+/// assert_eq!(Bus::START, Bus { tick: 0, node: 1, turns: 0 });
+/// ```
 #[repr(C)]
-#[derive(Clone, Copy, PartialEq, Eq, Debug)]
+#[derive(Clone, Copy, PartialEq, Eq, Hash, Debug)]
 pub struct Bus {
+    /// The tick at which the next turn starts.
     pub tick: u32,
+    /// The node whose turn it is, from 1.
     pub node: u32,
+    /// How many turns have gone before it.
     pub turns: u32,
 }
 
 impl Bus {
     /// The bus starts at tick 0 with node 1's turn.
+    ///
+    /// ```
+    /// assert_eq!(wistorvan::Bus::START.node, 1);
+    /// ```
     pub const START: Bus = Bus {
         tick: 0,
         node: 1,
@@ -35,94 +115,211 @@ impl Bus {
     };
 }
 
-/// The word of a release that has not begun.
-pub const NOT_BEGUN: u32 = 4294967295;
-
-mod linked {
-    use super::{Answer, Bus};
-
-    extern "C" {
-        pub fn wistorvan_check_sheet(sheet: *const u32, words: usize) -> Answer;
-        pub fn wistorvan_one_stream(
-            sheet: *const u32,
-            words: usize,
-            node: u32,
-            stream: u32,
-        ) -> Answer;
-        pub fn wistorvan_admit(
-            sheet: *const u32,
-            words: usize,
-            room: *mut u32,
-            room_words: usize,
-        ) -> Answer;
-        pub fn wistorvan_replay(
-            sheet: *const u32,
-            words: usize,
-            log: *const u32,
-            log_words: usize,
-            horizon: u32,
-            room: *mut u32,
-            room_words: usize,
-        ) -> Answer;
-        pub fn wistorvan_step(
-            sheet: *const u32,
-            words: usize,
-            log: *const u32,
-            log_words: usize,
-            bus: *mut Bus,
-            room: *mut u32,
-            room_words: usize,
-        ) -> Answer;
-    }
+/// What [`one_stream`] answers.
+///
+/// ```
+/// // One node with a budget of 1 and one stream: full cycle 6.
+/// let listed = wistorvan::one_stream(&[1, 5, 1, 6, 1, 1, 10, 10], 1, 1).unwrap();
+/// assert_eq!((listed.wait, listed.cycles), (5, 1));
+/// ```
+#[derive(Clone, Copy, PartialEq, Eq, Hash, Debug)]
+pub struct ListedWait {
+    /// The listed wait, in ticks from release to begin: no message of the
+    /// stream waits longer, if it and those ranked above it in its node keep
+    /// their least periods.
+    pub wait: u32,
+    /// J: the fewest full cycles whose turns take more messages than can have
+    /// come ahead of it by then.
+    pub cycles: u32,
 }
 
-// Each pointer below goes with the length of its own slice. What is only read
-// is lent as const; a room is lent for writing and to nobody else meanwhile.
-
-/// Refusals 1 to 5 of a sheet, or 0, 0, 0 for a valid one.
-pub fn check_sheet(sheet: &[u32]) -> Answer {
-    unsafe { linked::wistorvan_check_sheet(sheet.as_ptr(), sheet.len()) }
+/// What [`admit`] answers.
+///
+/// ```
+/// let mut room = [0; 1];
+/// let admission = wistorvan::admit(&[1, 5, 1, 6, 1, 1, 10, 10], &mut room).unwrap();
+/// assert_eq!((admission.waits.len(), admission.cycle), (1, 6));
+/// ```
+#[derive(Clone, Copy, PartialEq, Eq, Hash, Debug)]
+pub struct Admission<'r> {
+    /// The listed waits of all streams in sheet order: the first words of the
+    /// lent room.
+    pub waits: &'r [u32],
+    /// C, the full cycle in ticks.
+    pub cycle: u32,
 }
 
-/// One stream of a node: its listed wait and J.
-pub fn one_stream(sheet: &[u32], node: u32, stream: u32) -> Answer {
-    unsafe { linked::wistorvan_one_stream(sheet.as_ptr(), sheet.len(), node, stream) }
+/// What [`replay`] answers.
+///
+/// ```
+/// // One release at tick 2, during the third of the idle bus's turns.
+/// let mut room = [0; 1];
+/// let replay = wistorvan::replay(&[1, 5, 1, 6, 1, 1, 10, 10], &[2, 1], 4, &mut room).unwrap();
+/// assert_eq!((replay.begins[0], replay.turns, replay.next), (2, 3, 8));
+/// ```
+#[derive(Clone, Copy, PartialEq, Eq, Hash, Debug)]
+pub struct Replay<'r> {
+    /// The begin tick of each release in log order, or [`NOT_BEGUN`]: the
+    /// first words of the lent room.
+    pub begins: &'r [u32],
+    /// How many turns started before the horizon.
+    pub turns: u32,
+    /// The tick at which the next turn would start.
+    pub next: u32,
 }
 
-/// The number of streams and the full cycle; the listed waits, in sheet order,
-/// in the room's first words. A refusal changes no word of the room.
-pub fn admit(sheet: &[u32], room: &mut [u32]) -> Answer {
-    unsafe { linked::wistorvan_admit(sheet.as_ptr(), sheet.len(), room.as_mut_ptr(), room.len()) }
+/// What [`step`] answers.
+///
+/// ```
+/// use wistorvan::{step, Bus};
+///
+/// // Nothing is released: the turn is one slot long.
+/// let mut bus = Bus::START;
+/// let step = step(&[1, 5, 1, 6, 1, 1, 10, 10], &[], &mut bus, &mut []).unwrap();
+/// assert_eq!((step.taken, step.next), (0, 1));
+/// ```
+#[derive(Clone, Copy, PartialEq, Eq, Hash, Debug)]
+pub struct Step {
+    /// How many messages the turn took.
+    pub taken: u32,
+    /// The tick at which the next turn starts.
+    pub next: u32,
 }
 
-/// The turns started and the tick the next would start; a begin tick for each
-/// release, in log order, or NOT_BEGUN, in the room's first words.
-pub fn replay(sheet: &[u32], log: &[u32], horizon: u32, room: &mut [u32]) -> Answer {
-    unsafe {
-        linked::wistorvan_replay(
-            sheet.as_ptr(),
-            sheet.len(),
-            log.as_ptr(),
-            log.len(),
-            horizon,
-            room.as_mut_ptr(),
-            room.len(),
-        )
-    }
+/// Whether a sheet is valid.
+///
+/// # Errors
+///
+/// In this order: [`Reason::SheetTooShort`], [`Reason::BadNodeCount`],
+/// [`Reason::BadDuration`], [`Reason::BadContents`], [`Reason::BadStream`].
+///
+/// ```
+/// use wistorvan::{check_sheet, Reason};
+///
+/// assert!(check_sheet(&[1, 5, 1, 6, 1, 1, 10, 10]).is_ok());
+/// // A deadline longer than its period.
+/// let refusal = check_sheet(&[1, 5, 1, 6, 1, 1, 10, 11]).unwrap_err();
+/// assert_eq!((refusal.reason(), refusal.place()), (Reason::BadStream, (1, 1)));
+/// ```
+pub fn check_sheet(sheet: &[u32]) -> Result<(), Refusal> {
+    raw::check_sheet(sheet).accepted().map(|_| ())
 }
 
-/// One turn of the record's node: the messages taken and the tick the next
-/// turn starts. The record is set to the next turn.
-pub fn step(sheet: &[u32], log: &[u32], bus: &mut Bus, room: &mut [u32]) -> Answer {
-    unsafe {
-        linked::wistorvan_step(
-            sheet.as_ptr(),
-            sheet.len(),
-            log.as_ptr(),
-            log.len(),
-            bus,
-            room.as_mut_ptr(),
-            room.len(),
-        )
-    }
+/// The listed wait of one stream of a node; both count from 1.
+///
+/// # Errors
+///
+/// In this order: those of [`check_sheet`], [`Reason::NoSuchStream`],
+/// [`Reason::Late`].
+///
+/// ```
+/// use wistorvan::{one_stream, Reason};
+///
+/// let sheet = [2, 5, 1, 9, 2, 1, 13, 1, 2, 40, 40, 60, 60, 30, 30];
+/// assert_eq!(one_stream(&sheet, 1, 2).unwrap().wait, 33);
+/// let refusal = one_stream(&sheet, 2, 2).unwrap_err();
+/// assert_eq!((refusal.reason(), refusal.place()), (Reason::NoSuchStream, (2, 2)));
+/// ```
+pub fn one_stream(sheet: &[u32], node: u32, stream: u32) -> Result<ListedWait, Refusal> {
+    let (wait, cycles) = raw::one_stream(sheet, node, stream).accepted()?;
+    Ok(ListedWait { wait, cycles })
+}
+
+/// Admits a sheet none of whose streams is late. The listed waits go to the
+/// room's first words, the rest of which stays; [`MAX_STREAMS`] words are
+/// always enough.
+///
+/// # Errors
+///
+/// In this order: those of [`check_sheet`], [`Reason::RoomTooShort`],
+/// [`Reason::Late`].
+///
+/// ```
+/// use wistorvan::{admit, Reason, MAX_STREAMS};
+///
+/// let mut sheet = [2, 5, 1, 9, 2, 1, 13, 1, 2, 40, 40, 60, 60, 30, 30];
+/// let mut room = [0; MAX_STREAMS];
+/// assert_eq!(admit(&sheet, &mut room).unwrap().waits, [16, 33, 16]);
+/// // The deadline of stream 2 of node 1.
+/// sheet[12] = 37;
+/// let refusal = admit(&sheet, &mut room).unwrap_err();
+/// assert_eq!((refusal.reason(), refusal.place()), (Reason::Late, (1, 2)));
+/// ```
+pub fn admit<'r>(sheet: &[u32], room: &'r mut [u32]) -> Result<Admission<'r>, Refusal> {
+    let (streams, cycle) = raw::admit(sheet, room).accepted()?;
+    Ok(Admission {
+        waits: &room[..streams as usize],
+        cycle,
+    })
+}
+
+/// Replays a log of releases from tick 0 up to a horizon. The begin ticks go
+/// to the room's first words, the rest of which stays; a word a release is
+/// enough. It does not ask whether the sheet would be admitted.
+///
+/// # Errors
+///
+/// In this order: those of [`check_sheet`], [`Reason::BadLog`],
+/// [`Reason::HorizonTooLarge`], [`Reason::RoomTooShort`].
+///
+/// ```
+/// use wistorvan::{begun, replay, Reason};
+///
+/// let sheet = [2, 5, 1, 9, 2, 1, 13, 1, 2, 40, 40, 60, 60, 30, 30];
+/// // Two words a release: its tick, and its stream by running number.
+/// let log = [0, 1, 0, 2, 1, 3];
+/// let mut room = [0; 3];
+/// let replayed = replay(&sheet, &log, 12, &mut room).unwrap();
+/// let begins: Vec<Option<u32>> = replayed.begins.iter().copied().map(begun).collect();
+/// assert_eq!(begins, [Some(0), None, Some(6)]);
+/// assert_eq!((replayed.turns, replayed.next), (2, 12));
+///
+/// let refusal = replay(&sheet, &[0, 1, 0, 4], 12, &mut room).unwrap_err();
+/// assert_eq!((refusal.reason(), refusal.place()), (Reason::BadLog, (0, 2)));
+/// ```
+pub fn replay<'r>(
+    sheet: &[u32],
+    log: &[u32],
+    horizon: u32,
+    room: &'r mut [u32],
+) -> Result<Replay<'r>, Refusal> {
+    let (turns, next) = raw::replay(sheet, log, horizon, room).accepted()?;
+    Ok(Replay {
+        begins: &room[..log.len() / 2],
+        turns,
+        next,
+    })
+}
+
+/// Runs one turn of the record's node and sets the record to the next turn.
+/// The room has a word for each release in log order: those that are
+/// [`NOT_BEGUN`] wait, and the begins of this turn are written.
+///
+/// # Errors
+///
+/// In this order: those of [`check_sheet`], [`Reason::BadLog`],
+/// [`Reason::BadBus`], [`Reason::RoomTooShort`].
+///
+/// ```
+/// use wistorvan::{step, Bus, Reason, NOT_BEGUN};
+///
+/// # fn main() -> Result<(), wistorvan::Refusal> {
+/// let sheet = [2, 5, 1, 9, 2, 1, 13, 1, 2, 40, 40, 60, 60, 30, 30];
+/// let log = [0, 1, 0, 2, 1, 3];
+/// let (mut bus, mut begins) = (Bus::START, [NOT_BEGUN; 3]);
+/// while bus.tick < 13 {
+///     step(&sheet, &log, &mut bus, &mut begins)?;
+/// }
+/// assert_eq!(begins, [0, 12, 6]);
+/// assert_eq!(bus, Bus { tick: 18, node: 2, turns: 3 });
+///
+/// bus.node = 3;
+/// let refusal = step(&sheet, &log, &mut bus, &mut begins).unwrap_err();
+/// assert_eq!(refusal.reason(), Reason::BadBus);
+/// # Ok(())
+/// # }
+/// ```
+pub fn step(sheet: &[u32], log: &[u32], bus: &mut Bus, room: &mut [u32]) -> Result<Step, Refusal> {
+    let (taken, next) = raw::step(sheet, log, bus, room).accepted()?;
+    Ok(Step { taken, next })
 }

@@ -1,0 +1,169 @@
+//! The entries with their plain three numbers, as the static library answers
+//! them; for code that compares or stores whole answers. Everybody else is
+//! better served by the functions at the crate's root, which take the same
+//! arguments.
+//!
+//! What this boundary assumes: that a lent table passes as a pointer to its
+//! words and then their number, and that an answer comes back as three 32-bit
+//! words in C's layout. No compiler holds the declarations here to the Rattle
+//! source; tests/declarations.rs compares their text with it. The library asks
+//! nothing of its caller, so there is nothing to test before a call.
+
+use crate::{Bus, Refusal};
+
+/// Three numbers. Number 0 is success; any other is a refusal, and the two
+/// after it are its place.
+///
+/// ```
+/// use wistorvan::raw;
+///
+/// let answer = raw::check_sheet(&[17, 5, 1]);
+/// assert_eq!((answer.number, answer.second, answer.third), (2, 0, 0));
+/// ```
+#[repr(C)]
+#[derive(Clone, Copy, PartialEq, Eq, Debug)]
+pub struct Answer {
+    /// 0, or the number of the refusal.
+    pub number: u32,
+    /// The first of the two numbers of a success, or of a refusal's place.
+    pub second: u32,
+    /// The second of the two numbers of a success, or of a refusal's place.
+    pub third: u32,
+}
+
+impl Answer {
+    /// The two numbers of a success, or the refusal.
+    pub(crate) fn accepted(self) -> Result<(u32, u32), Refusal> {
+        match self.number {
+            0 => Ok((self.second, self.third)),
+            number => Err(Refusal::new(number, (self.second, self.third))),
+        }
+    }
+}
+
+mod linked {
+    use super::{Answer, Bus};
+
+    extern "C" {
+        pub fn wistorvan_check_sheet(sheet: *const u32, sheet_words: usize) -> Answer;
+        pub fn wistorvan_one_stream(
+            sheet: *const u32,
+            sheet_words: usize,
+            node: u32,
+            stream: u32,
+        ) -> Answer;
+        pub fn wistorvan_admit(
+            sheet: *const u32,
+            sheet_words: usize,
+            room: *mut u32,
+            room_words: usize,
+        ) -> Answer;
+        pub fn wistorvan_replay(
+            sheet: *const u32,
+            sheet_words: usize,
+            log: *const u32,
+            log_words: usize,
+            horizon: u32,
+            room: *mut u32,
+            room_words: usize,
+        ) -> Answer;
+        pub fn wistorvan_step(
+            sheet: *const u32,
+            sheet_words: usize,
+            log: *const u32,
+            log_words: usize,
+            bus: *mut Bus,
+            room: *mut u32,
+            room_words: usize,
+        ) -> Answer;
+    }
+}
+
+// SAFETY, of every call below: each pointer goes with the length of its own
+// slice; what is only read is lent as const; a room and a record are lent for
+// writing and to nobody else meanwhile.
+
+/// [`crate::check_sheet`]: 0 0 0 for a valid sheet.
+///
+/// ```
+/// let answer = wistorvan::raw::check_sheet(&[1, 5, 1, 6, 1, 1, 10, 10]);
+/// assert_eq!(answer.number, 0);
+/// ```
+#[must_use]
+pub fn check_sheet(sheet: &[u32]) -> Answer {
+    unsafe { linked::wistorvan_check_sheet(sheet.as_ptr(), sheet.len()) }
+}
+
+/// [`crate::one_stream`]: the listed wait and J.
+///
+/// ```
+/// let answer = wistorvan::raw::one_stream(&[1, 5, 1, 6, 1, 1, 10, 10], 1, 1);
+/// assert_eq!((answer.number, answer.second, answer.third), (0, 5, 1));
+/// ```
+#[must_use]
+pub fn one_stream(sheet: &[u32], node: u32, stream: u32) -> Answer {
+    unsafe { linked::wistorvan_one_stream(sheet.as_ptr(), sheet.len(), node, stream) }
+}
+
+/// [`crate::admit`]: the number of streams and the full cycle; the listed
+/// waits in the room's first words.
+///
+/// ```
+/// let mut room = [0; 1];
+/// let answer = wistorvan::raw::admit(&[1, 5, 1, 6, 1, 1, 10, 10], &mut room);
+/// assert_eq!((answer.number, answer.second, answer.third), (0, 1, 6));
+/// assert_eq!(room, [5]);
+/// ```
+#[must_use]
+pub fn admit(sheet: &[u32], room: &mut [u32]) -> Answer {
+    unsafe { linked::wistorvan_admit(sheet.as_ptr(), sheet.len(), room.as_mut_ptr(), room.len()) }
+}
+
+/// [`crate::replay`]: the turns started and the tick the next would start; a
+/// begin tick for each release in the room's first words.
+///
+/// ```
+/// let mut room = [0; 1];
+/// let answer = wistorvan::raw::replay(&[1, 5, 1, 6, 1, 1, 10, 10], &[2, 1], 4, &mut room);
+/// assert_eq!((answer.number, answer.second, answer.third), (0, 3, 8));
+/// assert_eq!(room, [2]);
+/// ```
+#[must_use]
+pub fn replay(sheet: &[u32], log: &[u32], horizon: u32, room: &mut [u32]) -> Answer {
+    unsafe {
+        linked::wistorvan_replay(
+            sheet.as_ptr(),
+            sheet.len(),
+            log.as_ptr(),
+            log.len(),
+            horizon,
+            room.as_mut_ptr(),
+            room.len(),
+        )
+    }
+}
+
+/// [`crate::step`]: the messages taken and the tick the next turn starts.
+///
+/// ```
+/// use wistorvan::{raw, Bus, NOT_BEGUN};
+///
+/// let (mut bus, mut room) = (Bus::START, [NOT_BEGUN; 1]);
+/// let answer = raw::step(&[1, 5, 1, 6, 1, 1, 10, 10], &[0, 1], &mut bus, &mut room);
+/// assert_eq!((answer.number, answer.second, answer.third), (0, 1, 6));
+/// assert_eq!((room, bus.tick, bus.turns), ([0], 6, 1));
+/// ```
+#[must_use]
+pub fn step(sheet: &[u32], log: &[u32], bus: &mut Bus, room: &mut [u32]) -> Answer {
+    unsafe {
+        linked::wistorvan_step(
+            sheet.as_ptr(),
+            sheet.len(),
+            log.as_ptr(),
+            log.len(),
+            bus,
+            room.as_mut_ptr(),
+            room.len(),
+        )
+    }
+}

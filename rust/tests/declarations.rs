@@ -1,0 +1,152 @@
+//! The entries are declared in C and in Rust as in the Rattle source: the same
+//! ones, with the same arguments in the same order. No compiler sees that: two
+//! arguments of one type can change places in a declaration, and every call
+//! that goes by its names is then wrong.
+
+use std::fs;
+use std::path::Path;
+
+use wistorvan::{MAX_RELEASES, MAX_STREAMS, NOT_BEGUN};
+
+/// A file of the repository.
+fn text(name: &str) -> String {
+    let path = Path::new(env!("CARGO_MANIFEST_DIR")).join("..").join(name);
+    fs::read_to_string(&path).unwrap_or_else(|error| panic!("{name}: {error}"))
+}
+
+/// A source on one line, without comments, directives of C and attributes.
+fn source(name: &str) -> String {
+    let text = text(name);
+    let code: Vec<&str> = text
+        .lines()
+        .filter(|line| !line.trim_start().starts_with('#'))
+        .map(|line| line.split("//").next().unwrap_or(""))
+        .flat_map(str::split_whitespace)
+        .collect();
+    without_c_comments(&code.join(" "))
+}
+
+fn without_c_comments(text: &str) -> String {
+    let mut pieces = text.split("/*");
+    let first = pieces.next().unwrap_or("").to_string();
+    pieces.fold(first, |kept, piece| {
+        kept + piece.split_once("*/").expect("a comment has an end").1
+    })
+}
+
+/// An entry of the Rattle source: its name, and its arguments with their types.
+struct Entry {
+    name: String,
+    arguments: Vec<(String, String)>,
+}
+
+fn argument(text: &str) -> (String, String) {
+    let (name, kind) = text.split_once(':').expect("a name and a type");
+    // The record is `rec` there, since `bus` is the name of a crate.
+    let name = match name.trim() {
+        "rec" => "bus",
+        other => other,
+    };
+    (name.to_string(), kind.trim().to_string())
+}
+
+fn entries() -> Vec<Entry> {
+    let rattle = source("crates/wistorvan/src/lib.rt");
+    let heads = rattle.split("pub extern \"C\" fn ").skip(1);
+    heads
+        .map(|head| {
+            let (head, rest) = head.split_once(')').expect("arguments end");
+            assert!(rest.starts_with(" -> Answer "), "{head} answers otherwise");
+            let (name, arguments) = head.split_once('(').expect("arguments begin");
+            let arguments = arguments.split(',').filter(|part| !part.trim().is_empty());
+            Entry {
+                name: name.to_string(),
+                arguments: arguments.map(argument).collect(),
+            }
+        })
+        .collect()
+}
+
+fn in_c(entry: &Entry) -> String {
+    let arguments = entry
+        .arguments
+        .iter()
+        .map(|(name, kind)| match kind.as_str() {
+            "u32" => format!("uint32_t {name}"),
+            "&[u32]" => format!("const uint32_t *{name}, size_t {name}_words"),
+            "&mut [u32]" => format!("uint32_t *{name}, size_t {name}_words"),
+            "&mut Bus" => format!("struct wistorvan_bus *{name}"),
+            _ => panic!("{kind} has no form in C yet"),
+        });
+    let arguments = arguments.collect::<Vec<_>>().join(", ");
+    format!("struct wistorvan_answer {}({arguments})", entry.name)
+}
+
+fn in_rust(entry: &Entry) -> String {
+    let arguments = entry
+        .arguments
+        .iter()
+        .map(|(name, kind)| match kind.as_str() {
+            "u32" => format!("{name}: u32"),
+            "&[u32]" => format!("{name}: *const u32, {name}_words: usize"),
+            "&mut [u32]" => format!("{name}: *mut u32, {name}_words: usize"),
+            "&mut Bus" => format!("{name}: *mut Bus"),
+            _ => panic!("{kind} has no form in Rust yet"),
+        });
+    let arguments = arguments.collect::<Vec<_>>().join(", ");
+    format!("pub fn {}({arguments}) -> Answer", entry.name)
+}
+
+fn sorted(mut declarations: Vec<String>) -> Vec<String> {
+    declarations.sort();
+    declarations
+}
+
+#[test]
+fn five_entries() {
+    assert_eq!(entries().len(), 5);
+}
+
+#[test]
+fn the_header() {
+    let header = source("include/wistorvan.h");
+    let declared = header.split([';', '{', '}']).map(str::trim);
+    let declared = declared.filter(|text| text.contains(" wistorvan_") && text.contains('('));
+    assert_eq!(
+        sorted(declared.map(str::to_string).collect()),
+        sorted(entries().iter().map(in_c).collect())
+    );
+}
+
+#[test]
+fn the_rust_declarations() {
+    let raw = source("rust/src/raw.rs");
+    let (_, block) = raw.split_once("extern \"C\" {").expect("a block begins");
+    let (block, _) = block.split_once('}').expect("it ends");
+    let declared = block
+        .split(';')
+        .map(str::trim)
+        .filter(|text| !text.is_empty());
+    // A long declaration is laid out on several lines.
+    let declared = declared.map(|text| text.replace("( ", "(").replace(", )", ")"));
+    assert_eq!(
+        sorted(declared.collect()),
+        sorted(entries().iter().map(in_rust).collect())
+    );
+}
+
+#[test]
+fn the_header_has_the_same_limits() {
+    let header = text("include/wistorvan.h");
+    let defined: Vec<&str> = header
+        .lines()
+        .filter_map(|line| line.strip_prefix("#define WISTORVAN_"))
+        .filter(|line| line.contains(' '))
+        .collect();
+    let expected = [
+        format!("NOT_BEGUN UINT32_C({NOT_BEGUN})"),
+        format!("MAX_STREAMS {MAX_STREAMS}"),
+        format!("MAX_RELEASES {MAX_RELEASES}"),
+    ];
+    assert_eq!(defined, expected);
+}

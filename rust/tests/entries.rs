@@ -1,0 +1,264 @@
+//! What the functions answer about sheet A, and every refusal, with its place
+//! and its sentence.
+
+use std::error::Error;
+
+use wistorvan::{admit, check_sheet, one_stream, raw, replay, step};
+use wistorvan::{Bus, ListedWait, Reason, Refusal, Step, MAX_RELEASES, MAX_STREAMS, NOT_BEGUN};
+
+const SHEET_A: [u32; 15] = [2, 5, 1, 9, 2, 1, 13, 1, 2, 40, 40, 60, 60, 30, 30];
+const LOG: [u32; 6] = [0, 1, 0, 2, 1, 3];
+const TOO_LARGE: u32 = 1_000_000_001;
+
+/// Sheet A with another word.
+fn sheet_a_with(place: usize, word: u32) -> [u32; 15] {
+    let mut sheet = SHEET_A;
+    sheet[place] = word;
+    sheet
+}
+
+/// The refusal in full: what it is, its place and its sentence.
+#[track_caller]
+fn assert_refusal(refusal: Refusal, reason: Reason, number: u32, place: (u32, u32), why: &str) {
+    assert_eq!(refusal.reason(), reason);
+    assert_eq!((refusal.number(), refusal.place()), (number, place));
+    let (a, b) = place;
+    assert_eq!(
+        refusal.to_string(),
+        format!("refused {number} at {a} {b}: {why}")
+    );
+}
+
+#[test]
+fn sheet_a_is_valid() {
+    assert_eq!(check_sheet(&SHEET_A), Ok(()));
+}
+
+#[test]
+fn each_stream_of_sheet_a() {
+    let listed = |node, stream| one_stream(&SHEET_A, node, stream);
+    let expected = |wait, cycles| Ok(ListedWait { wait, cycles });
+    assert_eq!(listed(1, 1), expected(16, 1));
+    assert_eq!(listed(1, 2), expected(33, 2));
+    assert_eq!(listed(2, 1), expected(16, 1));
+}
+
+#[test]
+fn sheet_a_is_admitted() {
+    let mut room = [7; 5];
+    let admission = admit(&SHEET_A, &mut room).unwrap();
+    assert_eq!((admission.waits, admission.cycle), (&[16, 33, 16][..], 17));
+    assert_eq!(room, [16, 33, 16, 7, 7]);
+}
+
+#[test]
+fn a_replayed_log() {
+    // Node 2 breaks its period. All four numbers that go in or come out differ.
+    let log = [0, 2, 0, 3, 0, 3, 1, 1];
+    let mut room = [7; 6];
+    let replayed = replay(&SHEET_A, &log, 18, &mut room).unwrap();
+    assert_eq!(replayed.begins, [0, 6, 11, 17]);
+    assert_eq!((replayed.turns, replayed.next), (3, 23));
+    assert_eq!(room, [0, 6, 11, 17, 7, 7]);
+}
+
+#[test]
+fn a_release_that_has_not_begun() {
+    let mut room = [7; 3];
+    let replayed = replay(&SHEET_A, &LOG, 12, &mut room).unwrap();
+    assert_eq!(replayed.begins, [0, NOT_BEGUN, 6]);
+    assert_eq!((replayed.turns, replayed.next), (2, 12));
+}
+
+#[test]
+fn one_turn_after_another() {
+    let (mut bus, mut room) = (Bus::START, [NOT_BEGUN; 4]);
+    let mut turns = Vec::new();
+    while bus.tick < 18 {
+        turns.push(step(&SHEET_A, &LOG, &mut bus, &mut room).unwrap());
+    }
+    let expected = [(1, 6), (1, 12), (1, 18)].map(|(taken, next)| Step { taken, next });
+    assert_eq!(turns, expected);
+    assert_eq!(room, [0, 12, 6, NOT_BEGUN]);
+    let expected = Bus {
+        tick: 18,
+        node: 2,
+        turns: 3,
+    };
+    assert_eq!(bus, expected);
+}
+
+#[test]
+fn the_plain_numbers() {
+    let numbers = |a: raw::Answer| (a.number, a.second, a.third);
+    let mut room = [7; 4];
+    assert_eq!(numbers(raw::check_sheet(&SHEET_A)), (0, 0, 0));
+    assert_eq!(numbers(raw::one_stream(&SHEET_A, 1, 2)), (0, 33, 2));
+    assert_eq!(numbers(raw::admit(&SHEET_A, &mut room)), (0, 3, 17));
+    assert_eq!(room, [16, 33, 16, 7]);
+    let answer = raw::replay(&SHEET_A, &LOG, 40, &mut room);
+    assert_eq!(numbers(answer), (0, 25, 40));
+    assert_eq!(room, [0, 12, 6, 7]);
+    let mut bus = Bus::START;
+    room.fill(NOT_BEGUN);
+    let answer = raw::step(&SHEET_A, &LOG, &mut bus, &mut room);
+    assert_eq!(numbers(answer), (0, 1, 6));
+    assert_eq!((bus.tick, bus.node, bus.turns), (6, 2, 1));
+}
+
+/// Every function gives the refusals of a sheet before its own.
+#[track_caller]
+fn sheet_refusal(sheet: &[u32]) -> Refusal {
+    let refusal = check_sheet(sheet).unwrap_err();
+    let mut bus = Bus {
+        node: 0,
+        ..Bus::START
+    };
+    assert_eq!(one_stream(sheet, 0, 0), Err(refusal));
+    assert_eq!(admit(sheet, &mut []), Err(refusal));
+    assert_eq!(replay(sheet, &[1], TOO_LARGE, &mut []), Err(refusal));
+    assert_eq!(step(sheet, &[1], &mut bus, &mut []), Err(refusal));
+    refusal
+}
+
+#[test]
+fn refusals_of_a_header() {
+    let why = "the sheet has fewer than 3 words";
+    for length in [0, 2] {
+        let refusal = sheet_refusal(&SHEET_A[..length]);
+        assert_refusal(refusal, Reason::SheetTooShort, 1, (0, 0), why);
+    }
+    let refusal = sheet_refusal(&sheet_a_with(0, 17));
+    let why = "the number of nodes is not 1 to 16";
+    assert_refusal(refusal, Reason::BadNodeCount, 2, (0, 0), why);
+    let refusal = sheet_refusal(&sheet_a_with(2, 10_001));
+    let why = "TMS or TPR is not 1 to 10,000";
+    assert_refusal(refusal, Reason::BadDuration, 3, (0, 0), why);
+}
+
+#[test]
+fn refusals_of_contents_and_bodies() {
+    let why = "the sheet's length is wrong";
+    for length in [8, 14] {
+        let refusal = sheet_refusal(&SHEET_A[..length]);
+        assert_refusal(refusal, Reason::BadContents, 4, (0, 0), why);
+    }
+    let refusal = sheet_refusal(&sheet_a_with(8, 17));
+    let why = "node 2: wrong place, stream count or budget";
+    assert_refusal(refusal, Reason::BadContents, 4, (2, 0), why);
+    let refusal = sheet_refusal(&sheet_a_with(12, 61));
+    let why = "stream 2 of node 1: wrong period or deadline";
+    assert_refusal(refusal, Reason::BadStream, 5, (1, 2), why);
+}
+
+#[test]
+fn a_late_stream() {
+    let sheet = sheet_a_with(12, 37);
+    let why = "stream 2 of node 1 would be late";
+    let mut room = [7; 3];
+    let refusal = admit(&sheet, &mut room).unwrap_err();
+    assert_refusal(refusal, Reason::Late, 7, (1, 2), why);
+    assert_eq!(room, [7; 3]);
+    assert_eq!(one_stream(&sheet, 1, 2), Err(refusal));
+    let admission = admit(&sheet_a_with(12, 38), &mut room).unwrap();
+    assert_eq!(admission.waits[1], 33);
+}
+
+#[test]
+fn a_stream_that_is_not_there() {
+    for (node, stream) in [(0, 1), (1, 0), (1, 3), (2, 2), (3, 1)] {
+        let refusal = one_stream(&SHEET_A, node, stream).unwrap_err();
+        let why = format!("the sheet has no stream {stream} of node {node}");
+        assert_refusal(refusal, Reason::NoSuchStream, 8, (node, stream), &why);
+    }
+}
+
+#[test]
+fn a_room_too_short() {
+    let why = "the room has fewer words than streams or releases";
+    let (mut room, mut bus) = ([NOT_BEGUN; 2], Bus::START);
+    let refusal = admit(&SHEET_A, &mut room).unwrap_err();
+    assert_refusal(refusal, Reason::RoomTooShort, 6, (0, 0), why);
+    assert_eq!(replay(&SHEET_A, &LOG, 40, &mut room), Err(refusal));
+    assert_eq!(step(&SHEET_A, &LOG, &mut bus, &mut room), Err(refusal));
+    assert_eq!((room, bus), ([NOT_BEGUN; 2], Bus::START));
+}
+
+/// The replay and the step refuse a log alike, before all but the sheet.
+#[track_caller]
+fn log_refusal(log: &[u32]) -> Refusal {
+    let mut bus = Bus {
+        node: 0,
+        ..Bus::START
+    };
+    let refusal = replay(&SHEET_A, log, TOO_LARGE, &mut []).unwrap_err();
+    assert_eq!(step(&SHEET_A, log, &mut bus, &mut []), Err(refusal));
+    refusal
+}
+
+#[test]
+fn refusals_of_a_log() {
+    let why = "the log's length is odd or over 4,096 releases";
+    assert_refusal(log_refusal(&[0, 1, 0]), Reason::BadLog, 9, (0, 0), why);
+    let too_many = [0, 1].repeat(MAX_RELEASES + 1);
+    assert_refusal(log_refusal(&too_many), Reason::BadLog, 9, (0, 0), why);
+    for log in [[5, 1, TOO_LARGE, 1], [5, 1, 4, 1], [5, 1, 5, 4]] {
+        let why = "release 2: wrong tick or unknown stream";
+        assert_refusal(log_refusal(&log), Reason::BadLog, 9, (0, 2), why);
+    }
+}
+
+#[test]
+fn a_horizon_too_large() {
+    let refusal = replay(&SHEET_A, &LOG, TOO_LARGE, &mut []).unwrap_err();
+    let why = "the horizon is over 1,000,000,000";
+    assert_refusal(refusal, Reason::HorizonTooLarge, 10, (0, 0), why);
+}
+
+#[test]
+fn a_record_off_the_bus() {
+    let why = "the record's tick, node or turns are out of range";
+    let at = |tick, node, turns| Bus { tick, node, turns };
+    for record in [
+        at(TOO_LARGE, 1, 0),
+        at(0, 0, 0),
+        at(0, 3, 0),
+        at(0, 1, TOO_LARGE),
+    ] {
+        let mut bus = record;
+        let refusal = step(&SHEET_A, &LOG, &mut bus, &mut []).unwrap_err();
+        assert_refusal(refusal, Reason::BadBus, 16, (0, 0), why);
+        assert_eq!(bus, record);
+    }
+}
+
+#[test]
+fn the_longest_rooms() {
+    let rows = (0..16).flat_map(|node| [51 + 32 * node, 16, 16]);
+    let bodies = [1_000_000_000; 2 * MAX_STREAMS];
+    let sheet: Vec<u32> = [16, 1, 1].into_iter().chain(rows).chain(bodies).collect();
+    let mut room = [0; MAX_STREAMS];
+    let waits = admit(&sheet, &mut room).unwrap().waits;
+    // Full cycle 16 x 16 + 16, and the fifteen of its node in front of the last.
+    assert_eq!((waits.len(), waits[0], waits[255]), (MAX_STREAMS, 271, 286));
+    let refusal = admit(&sheet, &mut room[1..]).unwrap_err();
+    assert_eq!(refusal.reason(), Reason::RoomTooShort);
+
+    let log = [0, 256].repeat(MAX_RELEASES);
+    let mut room = [0; MAX_RELEASES];
+    let replayed = replay(&sheet, &log, 16, &mut room).unwrap();
+    assert_eq!(replayed.begins[15..17], [30, NOT_BEGUN]);
+    let refusal = replay(&sheet, &log, 16, &mut room[1..]).unwrap_err();
+    assert_eq!(refusal.reason(), Reason::RoomTooShort);
+}
+
+#[test]
+fn a_refusal_is_an_error_like_others() {
+    fn asks() -> Result<u32, Box<dyn Error + Send + Sync>> {
+        let tick: u32 = "40".parse()?;
+        Ok(replay(&SHEET_A, &[0, 4], tick, &mut [0])?.turns)
+    }
+    let error = asks().unwrap_err();
+    let refusal = error.downcast_ref::<Refusal>().unwrap();
+    assert_eq!(refusal.place(), (0, 1));
+}
