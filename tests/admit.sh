@@ -8,25 +8,38 @@ admit() { # NAME FILE LINE..
     local name=$1 file=$2
     shift 2
     printf '%s\n' "$@" >"$work/expected"
-    "$bin/admit" <"$file" >"$work/got" 2>&1
+    program admit <"$file"
     holds "admit $name" "$work/got" "$work/expected"
     "$peer" admit <"$file" >"$work/second"
     holds "admit $name, second program" "$work/got" "$work/second"
 }
 
-sheet_a="2 5 1 9 2 1 13 1 2 40 40 60 60 30 30"
-words a $sheet_a
-admit "sheet A" "$work/a" "node stream wait" "1 1 16" "1 2 33" "2 1 16" "admitted 3"
+# What comes through a pipe on standard input, and the lines to expect.
+piped() { # NAME LINE..
+    local name=$1
+    shift
+    printf '%s\n' "$@" >"$work/expected"
+    program admit
+    holds "admit $name" "$work/got" "$work/expected"
+}
 
-# In pieces: one byte at a time, with pauses between some.
-{
+sheet_a="2 5 1 9 2 1 13 1 2 40 40 60 60 30 30"
+rows_a=("node stream wait" "1 1 16" "1 2 33" "2 1 16" "admitted 3")
+words a $sheet_a
+admit "sheet A" "$work/a" "${rows_a[@]}"
+
+# In pieces: cut between words, within one, and behind a whole sheet; and one byte at a time, with pauses between some.
+bytes() {
     for at in $(seq 0 59); do
         dd if="$work/a" bs=1 skip="$at" count=1 status=none
         [ $((at % 20)) -ne 7 ] || sleep 0.05
     done
-} | "$bin/admit" >"$work/got" 2>&1
-"$bin/admit" <"$work/a" >"$work/expected"
-holds "sheet A in small pieces" "$work/got" "$work/expected"
+}
+piped "sheet A in two pieces" "${rows_a[@]}" < <(pieces "$work/a" 36)
+piped "sheet A cut within a word" "${rows_a[@]}" < <(pieces "$work/a" 57)
+{ cat "$work/a"; printf x; } >"$work/a61"
+piped "sheet A and then a byte" "refused 1 at 0 0" < <(pieces "$work/a61" 60)
+piped "sheet A in small pieces" "${rows_a[@]}" < <(bytes)
 
 : >"$work/empty"
 admit "empty sheet" "$work/empty" "refused 1 at 0 0"
@@ -55,9 +68,12 @@ admit "all nodes without streams" "$work/idle" "node stream wait" "admitted 0"
 words figure1 3 5 1 12 3 1 18 1 1 20 1 1 20 20 65 65 67 67 26 26 35 35
 admit "Figure 1 of 000 in fifths" "$work/figure1" "refused 7 at 1 1"
 
+# C is 2,570,000 and J 259: the stream above has a period of C + TMS - 1 and the budget is 1.
+words wait 16 10000 10000 51 2 1 $(printf '55 0 16 %.0s' {2..16}) 2579999 2579999 1000000000 1000000000
+admit "a wait over 10^8" "$work/wait" "node stream wait" "1 1 2569999" "1 2 665629999" "admitted 2"
+
 printf 'abcde' >"$work/five"
 admit "5 bytes" "$work/five" "refused 1 at 0 0"
-{ cat "$work/a"; printf x; } >"$work/a61"
 admit "sheet A and a byte" "$work/a61" "refused 1 at 0 0"
 
 # 16 nodes of 16 streams: 563 words, 2,252 bytes, the longest valid sheet.
@@ -68,7 +84,7 @@ full=$(awk 'BEGIN {
 }')
 words full $full
 rows=$(awk 'BEGIN { for (k = 1; k <= 16; k++) for (j = 1; j <= 16; j++) print k, j, 271 + j - 1 }')
-[ "$(wc -c <"$work/full")" -eq 2252 ] || { echo "the longest sheet is not 2,252 bytes"; failed=$((failed + 1)); }
+of_bytes "$work/full" 2252
 mapfile -t lines <<<"$rows"
 admit "16 nodes of 16 streams" "$work/full" "node stream wait" "${lines[@]}" "admitted 256"
 words over $full 1
@@ -80,9 +96,9 @@ admit "100,000 bytes" "$work/huge" "refused 1 at 0 0"
 
 for sample in "$root"/samples/*.txt; do
     case $sample in *-log.txt) continue ;; esac
-    "$root/tools/words" <"$sample" >"$work/sample"
+    to_words "$work/sample" <"$sample"
     "$peer" admit <"$work/sample" >"$work/expected"
-    "$bin/admit" <"$work/sample" >"$work/got" 2>&1
+    program admit <"$work/sample"
     holds "admit $(basename "$sample")" "$work/got" "$work/expected"
 done
 finish

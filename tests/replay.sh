@@ -17,15 +17,23 @@ replay() { # NAME SHEET SECOND LINE..
 run() { # NAME FILE..
     local name=$1
     shift
-    "$bin/replay" "$@" >"$work/got" 2>&1
+    program replay "$@"
     "$peer" replay "$@" >"$work/second"
     holds "replay $name, second program" "$work/got" "$work/second"
+}
+
+# Both files through pipes, each cut after so many bytes, held to what the whole files give.
+piped() { # NAME SHEET BYTES SECOND BYTES
+    "$peer" replay "$2" "$4" >"$work/expected"
+    program replay <(pieces "$2" "$3") <(pieces "$4" "$5")
+    holds "replay $1" "$work/got" "$work/expected"
 }
 
 a=$work/a
 words a 2 5 1 9 2 1 13 1 2 40 40 60 60 30 30
 words p9 40 0 1 0 2 1 3
-replay "P9" "$a" "$work/p9" "release begin" "1 0" "2 12" "3 6" "turns 25 next 40"
+rows_p9=("release begin" "1 0" "2 12" "3 6" "turns 25 next 40")
+replay "P9" "$a" "$work/p9" "${rows_p9[@]}"
 words p10 12 0 1 0 2 1 3
 replay "P10" "$a" "$work/p10" "release begin" "1 0" "2 -" "3 6" "turns 2 next 12"
 words p11 18 0 2 0 3 0 3 1 1
@@ -59,16 +67,52 @@ replay "a horizon too large" "$a" "$work/far" "refused 10 at 0 0"
 # 4,096 releases: 32,772 bytes with the horizon, and one release more.
 releases() { awk -v n="$1" 'BEGIN { print 7; for (i = 0; i < n; i++) print 0, 1 }'; }
 words most $(releases 4096)
-[ "$(wc -c <"$work/most")" -eq 32772 ] || { echo "4,096 releases are not 32,772 bytes"; failed=$((failed + 1)); }
+of_bytes "$work/most" 32772
 run "4,096 releases" "$a" "$work/most"
 tail -n 1 "$work/got" >"$work/last"
 echo "turns 2 next 7" >"$work/expected"
 holds "4,096 releases, last line" "$work/last" "$work/expected"
-words many $(releases 4097)
+words release 0 1
+cat "$work/most" "$work/release" >"$work/many"
 replay "4,097 releases" "$a" "$work/many" "refused 9 at 0 0"
 { cat "$work/most"; printf 'wxyz'; } >"$work/over"
-[ "$(wc -c <"$work/over")" -eq 32776 ] || { echo "not 32,776 bytes"; failed=$((failed + 1)); }
+of_bytes "$work/over" 32776
 replay "a second file of 32,776 bytes" "$a" "$work/over" "refused 9 at 0 0"
+
+# Numbers of nine and ten digits. Silent turns of 2,997 ticks come to tick 999,999,999, as those of 1 tick do.
+words edge 1 10000 1 6 1 16 1000 1000
+words pair 1000000000 999999999 1 999999999 1
+replay "a begin over 10^9 after 10^9 turns" "$work/edge" "$work/pair" \
+    "release begin" "1 999999999" "2 1000009999" "turns 1000000000 next 1000020000"
+words edge 1 1 2997 6 1 16 1000 1000
+words four 1000000000 999999999 1 999999999 1 999999999 1 1000000000 1
+replay "begins before, at and after 10^9, and none" "$work/edge" "$work/four" \
+    "release begin" "1 999999999" "2 1000000000" "3 1000000001" "4 -" "turns 333668 next 1000002999"
+words edge 1 10000 2997 6 1 16 1000 1000
+words last 1000000000 $(printf '999999999 1 %.0s' {1..16})
+mapfile -t lines < <(awk 'BEGIN { for (i = 0; i < 16; i++) printf "%d %d\n", i + 1, 999999999 + 10000 * i }')
+replay "a full turn of the longest messages at the end" "$work/edge" "$work/last" \
+    "release begin" "${lines[@]}" "turns 333668 next 1000162996"
+words silent 987654321
+replay "silent turns" "$a" "$work/silent" "release begin" "turns 987654321 next 987654321"
+words silent 1234567 1234560 3
+replay "a release after a million turns" "$a" "$work/silent" "release begin" "1 1234561" "turns 1234562 next 1234567"
+
+# In pieces: cut between words, within one, and behind a whole sheet or horizon.
+piped "both files cut between words" "$a" 36 "$work/p9" 12
+piped "both files cut within a word" "$a" 57 "$work/p9" 27
+piped "all but the horizon later" "$a" 60 "$work/p9" 4
+piped "4,096 releases in two pieces" "$a" 12 "$work/most" 20004
+{ cat "$a"; printf x; } >"$work/a61"
+piped "a sheet and then a byte" "$work/a61" 60 "$work/p9" 28
+
+# Paths longer than a buffer might be.
+deep=$work
+for name in $(printf '%064d %0200d %0200d %0200d %0200d %0200d' 1 2 3 4 5 6); do
+    deep=$deep/$name
+    mkdir "$deep" && cp "$a" "$work/p9" "$deep"
+    replay "paths of ${#deep} bytes and more" "$deep/a" "$deep/p9" "${rows_p9[@]}"
+done
 
 # The sheet first: its refusals come before those of the second file.
 replay "a missing sheet" "$work/missing" "$work/p9" "refused 1 at 0 0"
@@ -90,8 +134,8 @@ run "one argument" "$a"
 holds "replay with one argument" "$work/got" "$work/expected"
 
 for sample in "$root"/samples/*-log.txt; do
-    "$root/tools/words" <"${sample%-log.txt}.txt" >"$work/sheet"
-    "$root/tools/words" <"$sample" >"$work/log"
+    to_words "$work/sheet" <"${sample%-log.txt}.txt"
+    to_words "$work/log" <"$sample"
     run "$(basename "$sample")" "$work/sheet" "$work/log"
 done
 finish

@@ -89,7 +89,7 @@ fn admit() {
     for words in &sheets {
         for node in 1..=16 {
             for stream in 1..=16 {
-                largest = largest.max(wistorvan::one_stream(words, node, stream).third);
+                largest = largest.max(wistorvan::raw::one_stream(words, node, stream).third);
             }
         }
     }
@@ -99,7 +99,7 @@ fn admit() {
     );
     let proved = median(|| {
         for words in &sheets {
-            black_box(wistorvan::admit(black_box(words), &mut room));
+            black_box(wistorvan::raw::admit(black_box(words), &mut room));
         }
     });
     let second = median(|| {
@@ -121,13 +121,13 @@ fn far_search(slow: usize) -> Vec<u32> {
 
 fn search() {
     let words = far_search(1);
-    let answer = wistorvan::one_stream(&words, 1, 6);
+    let answer = wistorvan::raw::one_stream(&words, 1, 6);
     println!(
         "five streams above: J {}, wait {}",
         answer.third, answer.second
     );
     let proved = median(|| {
-        black_box(wistorvan::one_stream(black_box(&words), 1, 6));
+        black_box(wistorvan::raw::one_stream(black_box(&words), 1, 6));
     });
     let second = median(|| {
         black_box(peer::one_stream(black_box(&words), 1, 6));
@@ -144,7 +144,7 @@ fn search() {
 fn hardest() {
     let words = far_search(11);
     let began = Instant::now();
-    let answer = wistorvan::one_stream(&words, 1, 16);
+    let answer = wistorvan::raw::one_stream(&words, 1, 16);
     println!(
         "fifteen streams above: J {}, wait {}, {:.1} s",
         answer.third,
@@ -156,10 +156,10 @@ fn hardest() {
 /// Times one replay by both, and prints it for a turn of the second program.
 fn replay_pair(what: &str, sheet: &[u32], log: &[u32], horizon: u32) {
     let mut room = vec![0u32; log.len() / 2];
-    let answer = wistorvan::replay(sheet, log, horizon, &mut room);
+    let answer = wistorvan::raw::replay(sheet, log, horizon, &mut room);
     assert_eq!(answer.number, 0);
     let proved = median(|| {
-        black_box(wistorvan::replay(
+        black_box(wistorvan::raw::replay(
             black_box(sheet),
             black_box(log),
             horizon,

@@ -38,9 +38,9 @@ const VARIANTS: [(&str, Entry); 5] = [
 /// For each variant, what the library and the variant give if they differ.
 fn differences(case: &Case) -> [Option<(Outcome, Outcome)>; 5] {
     let (sheet, log, horizon) = (&case.sheet, &case.log, case.horizon);
-    let admit = proved(&case.room, |room| wistorvan::admit(sheet, room));
+    let admit = proved(&case.room, |room| wistorvan::raw::admit(sheet, room));
     let replay = proved(&case.room, |room| {
-        wistorvan::replay(sheet, log, horizon, room)
+        wistorvan::raw::replay(sheet, log, horizon, room)
     });
     VARIANTS.each_ref().map(|(_, entry)| {
         let (good, bad) = match entry {

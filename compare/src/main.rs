@@ -3,6 +3,7 @@
 //! broken variants of the second program.
 
 mod broken;
+mod far;
 mod programs;
 mod tally;
 
@@ -11,7 +12,7 @@ use std::process::ExitCode;
 
 use peer::generate::{case, named, Case};
 use programs::{Programs, CHANGES};
-use tally::{Outcome, Tally};
+use tally::{Outcome, Tally, EXPECTED, FAR};
 
 const USAGE: &str = "usage: compare SEED COUNT (cases 0 to COUNT - 1 and the named ones)
        compare SEED INDEX one (one case again)
@@ -20,11 +21,14 @@ const USAGE: &str = "usage: compare SEED COUNT (cases 0 to COUNT - 1 and the nam
        compare SEED INDEX broken one (one case again, against those)
 ";
 
-/// Starting a program takes long, so only one case in so many is run with it.
+/// Starting a program takes long, so only one case in so many is run with it,
+/// and so many of those that have far numbers.
 const PROGRAMS_EVERY: u64 = 100;
+const FAR_PROGRAMS: u64 = 400;
 
-/// Named cases with more turns are not run with the programs.
-const PROGRAM_TURNS: u32 = 1_000_000;
+/// So many generated cases must have all far numbers among them; fewer may
+/// leave them to the named cases.
+const FAR_CASES: u64 = 5_000;
 
 /// Longer replays are not run as single steps, each of which checks its whole
 /// input again.
@@ -41,7 +45,7 @@ fn second(room: &[u32], mut entry: impl FnMut(&mut [u32]) -> peer::Answer) -> Ou
 }
 
 /// Runs an entry of the proved library on a copy of the room.
-fn proved(room: &[u32], mut entry: impl FnMut(&mut [u32]) -> wistorvan::Answer) -> Outcome {
+fn proved(room: &[u32], mut entry: impl FnMut(&mut [u32]) -> wistorvan::raw::Answer) -> Outcome {
     let mut words = room.to_vec();
     let a = entry(&mut words);
     Outcome {
@@ -50,54 +54,66 @@ fn proved(room: &[u32], mut entry: impl FnMut(&mut [u32]) -> wistorvan::Answer) 
     }
 }
 
-/// All entries on one case; answers how many turns its replay takes at most.
-fn compare_case(tally: &mut Tally, name: &str, case: &Case) -> u32 {
+/// All entries on one case; whether what the programs write has far numbers.
+fn compare_case(tally: &mut Tally, name: &str, case: &Case) -> bool {
     tally.new_case();
-    let none: [u32; 0] = [];
-    tally.compare(
-        "sheet",
-        name,
-        case,
-        &proved(&none, |_| wistorvan::check_sheet(&case.sheet)),
-        &second(&none, |_| peer::check_sheet(&case.sheet)),
-    );
-    let (node, stream) = (case.node, case.stream);
-    tally.compare(
-        "one stream",
-        name,
-        case,
-        &proved(&none, |_| wistorvan::one_stream(&case.sheet, node, stream)),
-        &second(&none, |_| peer::one_stream(&case.sheet, node, stream)),
-    );
-    tally.compare(
-        "admit",
-        name,
-        case,
-        &proved(&case.room, |room| wistorvan::admit(&case.sheet, room)),
-        &second(&case.room, |room| peer::admit(&case.sheet, room)),
-    );
-    let whole = compare_replay(tally, name, case);
+    compare_sheet(tally, name, case);
+    compare_one_stream(tally, name, case);
+    let far_waits = compare_admit(tally, name, case);
+    let (whole, far_replay) = compare_replay(tally, name, case);
     compare_step(tally, name, case);
     compare_steps(tally, name, case, &whole);
-    match whole.answer {
-        (0, turns, _) => turns,
-        // Room enough would have let it run.
-        (6, _, _) => case.horizon / case.sheet[2],
-        _ => 0,
+    far_waits || far_replay
+}
+
+fn compare_sheet(tally: &mut Tally, name: &str, case: &Case) {
+    let mine = proved(&[], |_| wistorvan::raw::check_sheet(&case.sheet));
+    let other = second(&[], |_| peer::check_sheet(&case.sheet));
+    tally.compare("sheet", name, case, &mine, &other);
+}
+
+fn compare_one_stream(tally: &mut Tally, name: &str, case: &Case) {
+    let (sheet, node, stream) = (&case.sheet, case.node, case.stream);
+    let mine = proved(&[], |_| wistorvan::raw::one_stream(sheet, node, stream));
+    let other = second(&[], |_| peer::one_stream(sheet, node, stream));
+    tally.compare("one stream", name, case, &mine, &other);
+    if let (0, wait, _) = other.answer {
+        tally.reached("one stream", &[far::wait(&[wait])]);
     }
 }
 
-/// Answers what the proved replay gives.
-fn compare_replay(tally: &mut Tally, name: &str, case: &Case) -> Outcome {
+/// Answers whether a wait is far.
+fn compare_admit(tally: &mut Tally, name: &str, case: &Case) -> bool {
+    let mine = proved(&case.room, |room| wistorvan::raw::admit(&case.sheet, room));
+    let other = second(&case.room, |room| peer::admit(&case.sheet, room));
+    tally.compare("admit", name, case, &mine, &other);
+    match other.answer {
+        (0, streams, _) => {
+            let waits = &other.left[..streams as usize];
+            tally.reached("admit", &[far::wait(waits)])
+        }
+        _ => false,
+    }
+}
+
+/// Answers what the proved replay gives, and whether that is far.
+fn compare_replay(tally: &mut Tally, name: &str, case: &Case) -> (Outcome, bool) {
     let (sheet, log) = (&case.sheet, &case.log);
     let whole = proved(&case.room, |room| {
-        wistorvan::replay(sheet, log, case.horizon, room)
+        wistorvan::raw::replay(sheet, log, case.horizon, room)
     });
     let other = second(&case.room, |room| {
         peer::replay(sheet, log, case.horizon, room)
     });
     tally.compare("replay", name, case, &whole, &other);
-    whole
+    let far = match other.answer {
+        (0, turns, _) => {
+            let begins = &other.left[..log.len() / 2];
+            tally.reached("replay", &[far::begin(begins), far::turns(turns)])
+        }
+        _ => false,
+    };
+    (whole, far)
 }
 
 /// The step, which also leaves a record.
@@ -111,12 +127,17 @@ fn compare_step(tally: &mut Tally, name: &str, case: &Case) {
     };
     let mut theirs = r;
     let mut mine = proved(&case.step_room, |room| {
-        wistorvan::step(sheet, log, &mut ours, room)
+        wistorvan::raw::step(sheet, log, &mut ours, room)
     });
     mine.left.extend([ours.tick, ours.node, ours.turns]);
     let mut other = second(&case.step_room, |room| {
         peer::step(sheet, log, &mut theirs, room)
     });
+    let words = other.left.iter().zip(&case.step_room);
+    let begins: Vec<u32> = words
+        .filter_map(|(new, old)| (new != old).then_some(*new))
+        .collect();
+    tally.reached("step", &[far::begin(&begins)]);
     other.left.extend([theirs.tick, theirs.node, theirs.turns]);
     tally.compare("step", name, case, &mine, &other);
 }
@@ -126,44 +147,63 @@ fn compare_steps(tally: &mut Tally, name: &str, case: &Case, whole: &Outcome) {
     if whole.answer.0 != 0 || whole.answer.1 > STEPPED_TURNS {
         return;
     }
-    let mut bus = wistorvan::Bus::START;
-    let mut words = case.room.clone();
-    words[..case.log.len() / 2].fill(wistorvan::NOT_BEGUN);
-    while bus.tick < case.horizon {
-        wistorvan::step(&case.sheet, &case.log, &mut bus, &mut words);
-    }
-    let stepped = Outcome {
-        answer: (0, bus.turns, bus.tick),
-        left: words,
-    };
+    let stepped = stepped(case, whole.answer.1);
     tally.compare("replay as steps", name, case, &stepped, whole);
+}
+
+/// Ends at the horizon, at a step that is refused, or after one turn more than
+/// there should be: a step that refuses or stands still must not go on forever.
+fn stepped(case: &Case, turns: u32) -> Outcome {
+    let mut bus = wistorvan::Bus::START;
+    let mut left = case.room.clone();
+    left[..case.log.len() / 2].fill(wistorvan::NOT_BEGUN);
+    for _ in 0..=turns {
+        if bus.tick >= case.horizon {
+            break;
+        }
+        let a = wistorvan::raw::step(&case.sheet, &case.log, &mut bus, &mut left);
+        if a.number != 0 {
+            let answer = (a.number, a.second, a.third);
+            return Outcome { answer, left };
+        }
+    }
+    let answer = (0, bus.turns, bus.tick);
+    Outcome { answer, left }
 }
 
 /// The generated cases and the named ones, some of them with the programs.
 fn run_all(seed: u64, count: u64) -> io::Result<Tally> {
     let (programs, mut tally) = (Programs::new()?, Tally::default());
+    let mut far_left = FAR_PROGRAMS;
     for index in 0..count {
         let name = format!("case {index}: `compare {seed} {index} one`");
         let case = case(seed, index);
-        compare_case(&mut tally, &name, &case);
+        let far = compare_case(&mut tally, &name, &case);
         if index % PROGRAMS_EVERY == 0 {
             let change = (index / PROGRAMS_EVERY) as usize % CHANGES.len();
             programs.compare(&mut tally, &name, &case, &CHANGES[change..=change])?;
+        } else if far && far_left > 0 {
+            far_left -= 1;
+            programs.compare(&mut tally, &name, &case, &[])?;
         }
+    }
+    // By the generated cases alone, where there are enough.
+    if count >= FAR_CASES {
+        tally.expect(&FAR);
     }
     for (index, (name, case)) in named().iter().enumerate() {
         let name = format!("{name}: `compare {seed} {index} named`");
         run_one(&programs, &mut tally, &name, case)?;
     }
+    tally.expect(&FAR);
+    tally.expect(&EXPECTED);
     Ok(tally)
 }
 
 /// One case with both programs and all changes of their files.
 fn run_one(programs: &Programs, tally: &mut Tally, name: &str, case: &Case) -> io::Result<()> {
-    if compare_case(tally, name, case) <= PROGRAM_TURNS {
-        programs.compare(tally, name, case, &CHANGES)?;
-    }
-    Ok(())
+    compare_case(tally, name, case);
+    programs.compare(tally, name, case, &CHANGES)
 }
 
 fn run_again(name: &str, case: &Case) -> io::Result<Tally> {
@@ -176,9 +216,9 @@ fn run_again(name: &str, case: &Case) -> io::Result<Tally> {
 fn run(arguments: &[&str]) -> Option<io::Result<bool>> {
     let seed: u64 = arguments.first()?.parse().ok()?;
     let number: u64 = arguments.get(1)?.parse().ok()?;
-    let again = |name: &str, case: &Case| run_again(name, case).map(|tally| tally.report(false));
+    let again = |name: &str, case: &Case| run_again(name, case).map(|tally| tally.report());
     Some(match arguments[2..] {
-        [] => run_all(seed, number).map(|tally| tally.report(true)),
+        [] => run_all(seed, number).map(|tally| tally.report()),
         ["one"] => again("that case", &case(seed, number)),
         ["named"] => {
             let cases = named();

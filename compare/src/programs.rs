@@ -9,6 +9,7 @@ use std::process::{Child, Command, Stdio};
 use peer::generate::Case;
 use peer::text::{admit_program, replay_program, MOST_SECOND_BYTES, MOST_SHEET_BYTES};
 
+use crate::far;
 use crate::tally::{Outcome, Tally};
 
 /// Makes the new length of a file out of its length and the most it may have;
@@ -25,7 +26,7 @@ pub const CHANGES: [Change; 7] = [
     |_, _| None,
 ];
 
-/// What a program wrote, and whether it ended by itself.
+/// What a program wrote, and whether it ended well.
 #[derive(PartialEq, Eq, Debug)]
 struct Written {
     out: String,
@@ -34,6 +35,11 @@ struct Written {
 }
 
 type File = Option<Vec<u8>>;
+
+/// The last folder on the way to the programs' files: no buffer that holds
+/// only short paths holds theirs.
+const LONG_NAME: &str =
+    "a folder with a name so long that no path through it is of under a hundred bytes";
 
 /// Where the programs are, and a folder of their own for their files.
 pub struct Programs {
@@ -51,7 +57,7 @@ impl Programs {
     pub fn new() -> io::Result<Programs> {
         let binaries = Path::new(env!("CARGO_MANIFEST_DIR")).join("../target/bin");
         let folder = std::env::temp_dir().join(format!("compare-{}", std::process::id()));
-        fs::create_dir_all(&folder)?;
+        fs::create_dir_all(folder.join(LONG_NAME))?;
         Ok(Programs { binaries, folder })
     }
 
@@ -79,7 +85,7 @@ impl Programs {
     }
 
     fn file(&self, name: &str, file: &File) -> io::Result<PathBuf> {
-        let path = self.folder.join(name);
+        let path = self.folder.join(LONG_NAME).join(name);
         match file {
             Some(bytes) => fs::write(&path, bytes)?,
             None if path.exists() => fs::remove_file(&path)?,
@@ -130,6 +136,9 @@ impl Round<'_> {
     fn admit(&mut self, sheet: &File) -> io::Result<()> {
         let proved = self.programs.admit(sheet)?;
         let second = expected(admit_program(content(sheet)));
+        let text = &second.left.out;
+        let wait = far::wait(&far::rows(text));
+        self.tally.reached("admit program", &[wait]);
         let name = format!("{}, {}", self.name, length(sheet));
         self.tally
             .compare("admit program", &name, self.case, &proved, &second);
@@ -139,6 +148,10 @@ impl Round<'_> {
     fn replay(&mut self, sheet: &File, log: &File) -> io::Result<()> {
         let proved = self.programs.replay(sheet, log)?;
         let second = expected(replay_program(content(sheet), content(log)));
+        let text = &second.left.out;
+        let begin = far::begin(&far::rows(text));
+        let turns = far::turns_written(text).and_then(far::turns);
+        self.tally.reached("replay program", &[begin, turns]);
         let name = format!("{}, {} and {}", self.name, length(sheet), length(log));
         self.tally
             .compare("replay program", &name, self.case, &proved, &second);
@@ -177,7 +190,7 @@ fn outcome(child: Child) -> io::Result<Outcome<Written>> {
         left: Written {
             out,
             error: text(&output.stderr),
-            ended: output.status.code().is_some(),
+            ended: output.status.success(),
         },
     })
 }

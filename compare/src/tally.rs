@@ -1,15 +1,29 @@
 //! What was compared, how often each answer occurred, and what differed.
 
-use std::collections::BTreeMap;
+use std::collections::{BTreeMap, BTreeSet};
 use std::fmt::Debug;
 
 use peer::generate::Case;
 
-/// An entry, the number it answered and the kind of place.
-type Kind = (&'static str, u32, &'static str);
+use crate::far;
 
-/// The answers that a run of some thousand cases must have met.
-const EXPECTED: [Kind; 62] = [
+/// An entry, the number it answered, and the kind of place or what was far.
+pub type Kind = (&'static str, u32, &'static str);
+
+/// The far numbers that a whole run must have met.
+pub const FAR: [Kind; 8] = [
+    ("admit", 0, far::WAIT),
+    ("one stream", 0, far::WAIT),
+    ("replay", 0, far::BEGIN),
+    ("replay", 0, far::TURNS),
+    ("step", 0, far::BEGIN),
+    ("admit program", 0, far::WAIT),
+    ("replay program", 0, far::BEGIN),
+    ("replay program", 0, far::TURNS),
+];
+
+/// The answers that a whole run must have met.
+pub const EXPECTED: [Kind; 62] = [
     ("sheet", 0, "success"),
     ("sheet", 1, "0 0"),
     ("sheet", 2, "0 0"),
@@ -97,6 +111,7 @@ pub struct Tally {
     cases: u64,
     differences: u64,
     answers: BTreeMap<Kind, u64>,
+    missing: BTreeSet<Kind>,
 }
 
 impl Tally {
@@ -124,21 +139,31 @@ impl Tally {
         }
     }
 
-    /// Prints the counts and answers whether there was no difference and, in
-    /// a whole run, every expected kind of answer.
-    pub fn report(&self, whole: bool) -> bool {
+    /// Counts what was far in a success; answers whether anything was.
+    pub fn reached(&mut self, entry: &'static str, far: &[Option<&'static str>]) -> bool {
+        for what in far.iter().flatten() {
+            *self.answers.entry((entry, 0, what)).or_default() += 1;
+        }
+        far.iter().any(Option::is_some)
+    }
+
+    /// All of these must have been met by now.
+    pub fn expect(&mut self, kinds: &[Kind]) {
+        let unmet = kinds.iter().filter(|kind| !self.answers.contains_key(kind));
+        self.missing.extend(unmet);
+    }
+
+    /// Prints the counts and answers whether there was no difference and all
+    /// that was expected.
+    pub fn report(&self) -> bool {
         println!("cases {}", self.cases);
         for ((entry, number, place), times) in &self.answers {
             println!("{entry} {number} ({place}) {times}");
         }
         println!("differences {}", self.differences);
-        let missing: Vec<&Kind> = EXPECTED
-            .iter()
-            .filter(|kind| whole && !self.answers.contains_key(*kind))
-            .collect();
-        for kind in &missing {
+        for kind in &self.missing {
             println!("never met: {kind:?}");
         }
-        self.differences == 0 && missing.is_empty()
+        self.differences == 0 && self.missing.is_empty()
     }
 }

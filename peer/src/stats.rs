@@ -5,7 +5,7 @@ use std::collections::BTreeMap;
 use std::fmt;
 
 use crate::admission::last_try;
-use crate::generate::{case, total_tries, Case};
+use crate::generate::{case, total_tries, Case, FAR_BEGIN, FAR_TURNS, FAR_WAIT};
 use crate::sheet::{Bus, LAST_TICK};
 use crate::{admit, check_sheet, one_stream, replay, step, Answer, NOT_BEGUN};
 
@@ -198,6 +198,8 @@ fn count_question(figures: &mut Figures, case: &Case) {
             };
             figures.add(format!("one stream 0, J {cycles}"));
             figures.total("one stream 0, J 2 or more", u64::from(answer.third >= 2));
+            let far = answer.second > FAR_WAIT;
+            figures.total("one stream 0, a wait over 10^8", u64::from(far));
         }
         8 => figures.add(format!("one stream 8 {}", question_cause(case))),
         number => figures.add(format!("one stream {number}")),
@@ -226,8 +228,14 @@ fn count_rooms(figures: &mut Figures, case: &Case) {
 }
 
 fn count_admit(figures: &mut Figures, case: &Case) {
-    let answer = admit(&case.sheet, &mut case.room.clone());
+    let mut room = case.room.clone();
+    let answer = admit(&case.sheet, &mut room);
     figures.add(format!("admit {}", answer.number));
+    if answer.number == 0 {
+        let waits = &room[..answer.second as usize];
+        let far = waits.iter().any(|&wait| wait > FAR_WAIT);
+        figures.total("admit 0, a wait over 10^8", u64::from(far));
+    }
     if let Ok(bus) = Bus::read(&case.sheet) {
         let tries = total_tries(&bus, u64::MAX);
         figures.highest("most tries of a sheet", tries);
@@ -257,10 +265,14 @@ fn count_replay(figures: &mut Figures, case: &Case) {
     match answer.number {
         0 => {
             let releases = case.log.len() / 2;
-            let begun = room[..releases].iter().filter(|&&word| word != NOT_BEGUN);
+            let begun = || room[..releases].iter().filter(|&&word| word != NOT_BEGUN);
+            let far_begin = begun().any(|&begin| begin > FAR_BEGIN);
+            let far_turns = answer.second > FAR_TURNS;
             figures.add("replay 0".to_string());
             figures.total("releases replayed", releases as u64);
-            figures.total("releases begun", begun.count() as u64);
+            figures.total("releases begun", begun().count() as u64);
+            figures.total("replay 0, a begin over 10^9", u64::from(far_begin));
+            figures.total("replay 0, over 10^6 turns", u64::from(far_turns));
             figures.total("turns of all replays", u64::from(answer.second));
             figures.highest("most turns of a replay", u64::from(answer.second));
             figures.total("replay 0, empty log", u64::from(releases == 0));
@@ -290,13 +302,8 @@ fn record_cause(case: &Case) -> &'static str {
 }
 
 fn count_step(figures: &mut Figures, case: &Case) {
-    let mut record = case.record;
-    let answer = step(
-        &case.sheet,
-        &case.log,
-        &mut record,
-        &mut case.step_room.clone(),
-    );
+    let (mut record, mut room) = (case.record, case.step_room.clone());
+    let answer = step(&case.sheet, &case.log, &mut record, &mut room);
     match answer.number {
         0 => {
             let taken = match answer.second {
@@ -305,6 +312,9 @@ fn count_step(figures: &mut Figures, case: &Case) {
                 _ => "2 or more",
             };
             figures.add(format!("step 0, taken {taken}"));
+            let mut words = room.iter().zip(&case.step_room);
+            let far = words.any(|(new, old)| new != old && *new > FAR_BEGIN);
+            figures.total("step 0, a begin over 10^9", u64::from(far));
         }
         9 => figures.add(format!("step 9 {}", log_cause(&case.log, answer))),
         16 => figures.add(format!("step 16 {}", record_cause(case))),

@@ -54,6 +54,11 @@ fn cases_spread_over_all_answers() {
         1,
     );
     least(&["sheet with equal periods in a node"], 200);
+    least(&["admit 0, a wait over 10^8"], 15);
+    least(&["one stream 0, a wait over 10^8"], 3);
+    least(&["replay 0, a begin over 10^9"], 5);
+    least(&["replay 0, over 10^6 turns"], 5);
+    least(&["step 0, a begin over 10^9"], 5);
     for entry in ["admit", "replay", "step"] {
         for length in ["empty", "short", "exact", "longer"] {
             least(&[&format!("room of {entry} {length}")], 50);
@@ -112,7 +117,7 @@ fn cases_keep_to_their_limits() {
     let figures = gather(4, 5_000);
     let turns = figures.count("most turns of a replay");
     let tries = figures.count("most tries of a sheet");
-    assert!((50_000..=MOST_TURNS).contains(&turns), "{turns}");
+    assert!((2_000_000..=MOST_TURNS).contains(&turns), "{turns}");
     assert!((50_000..=MOST_TRIES).contains(&tries), "{tries}");
 }
 
@@ -175,6 +180,28 @@ fn named_long_searches() {
             "{name}"
         );
     }
+}
+
+#[test]
+fn named_far_numbers() {
+    let wait = find("a wait of nine digits");
+    assert_eq!(one_stream(&wait.sheet, 1, 1), answer(0, 665_629_999, 259));
+    assert_eq!(admit(&wait.sheet, &mut [0; 2]), answer(0, 2, 2_570_000));
+    let replayed = |name: &str| {
+        let mut case = find(name);
+        let given = replay(&case.sheet, &case.log, case.horizon, &mut case.room);
+        (given, case.room[..case.log.len() / 2].to_vec())
+    };
+    let begins = vec![999_999_999, 1_000_000_000, 1_000_000_001, NOT_BEGUN];
+    assert_eq!(
+        replayed("begins before, at and after the last tick"),
+        (answer(0, 333_668, 1_000_002_999), begins)
+    );
+    let begins = (0..16).map(|message| 999_999_999 + 10_000 * message);
+    assert_eq!(
+        replayed("a full turn of the longest messages at the end"),
+        (answer(0, 333_668, 1_000_162_996), begins.collect())
+    );
 }
 
 #[test]

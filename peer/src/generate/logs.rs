@@ -38,17 +38,24 @@ fn scattered(random: &mut Random, traffic: &Traffic, releases: u64) -> Vec<Relea
         .collect()
 }
 
+/// Several at one tick, of one stream or of any.
+fn burst(random: &mut Random, traffic: &Traffic, tick: u32, most: u64) -> Vec<Release> {
+    let stream = traffic.any_stream(random);
+    let mixed = random.percent(50);
+    let mut releases = Vec::new();
+    for _ in 0..random.between(2, most) {
+        let other = traffic.any_stream(random);
+        releases.push((tick, if mixed { other } else { stream }));
+    }
+    releases
+}
+
 /// More at one tick than a turn can take.
 fn bursts(random: &mut Random, traffic: &Traffic) -> Vec<Release> {
     let mut releases = Vec::new();
     for _ in 0..random.between(1, 4) {
         let tick = traffic.any_tick(random) / random.pick(&[1, 2, 1_000]);
-        let stream = traffic.any_stream(random);
-        let mixed = random.percent(50);
-        for _ in 0..random.between(2, 40) {
-            let other = traffic.any_stream(random);
-            releases.push((tick, if mixed { other } else { stream }));
-        }
+        releases.extend(burst(random, traffic, tick, 40));
     }
     releases
 }
@@ -104,9 +111,22 @@ fn disturbed(random: &mut Random, traffic: &Traffic) -> Vec<Release> {
     releases
 }
 
+/// More than a turn can take just before the end, so that the last turn goes
+/// on past it.
+fn before_the_end(random: &mut Random, traffic: &Traffic) -> Vec<Release> {
+    let (_, cycle) = traffic.pace();
+    let tick = traffic.span.saturating_sub(random.between(1, 2 * cycle));
+    burst(random, traffic, tick as u32, 60)
+}
+
 fn releases(random: &mut Random, traffic: &Traffic) -> Vec<Release> {
     let most = MOST_RELEASES as u64;
-    match random.weighted(&[60, 180, 180, 200, 200, 160, 8, 8, 4]) {
+    // Where the end is the last tick, begins past it are what is wanted.
+    let end = match traffic.span == u64::from(LAST_TICK) {
+        true => 3_000,
+        false => 40,
+    };
+    match random.weighted(&[60, 180, 180, 200, 200, 160, 8, 8, 4, end]) {
         0 => Vec::new(),
         1 => {
             let count = random.between(1, 40);
@@ -118,6 +138,7 @@ fn releases(random: &mut Random, traffic: &Traffic) -> Vec<Release> {
         5 => disturbed(random, traffic),
         6 => scattered(random, traffic, most),
         7 => scattered(random, traffic, most + 1),
+        9 => before_the_end(random, traffic),
         _ => vec![(LAST_TICK, traffic.any_stream(random)); 3],
     }
 }

@@ -16,11 +16,18 @@ use random::Random;
 pub use named::named;
 pub(crate) use sheets::total_tries;
 
-/// A generated replay starts no more turns.
-pub const MOST_TURNS: u64 = 100_000;
+/// A generated replay starts no more turns, and most start far fewer.
+pub const MOST_TURNS: u64 = 4_000_000;
+const USUAL_TURNS: u64 = 100_000;
 /// All streams of a generated sheet together try no more J. A little under
 /// 10^5, for programs that look at one J more before they give up.
 pub const MOST_TRIES: u64 = 99_000;
+
+/// Only some cases have waits, begins or turns above these; a program that
+/// cuts a number short shows there.
+pub const FAR_WAIT: u32 = 100_000_000;
+pub const FAR_BEGIN: u32 = LAST_TICK;
+pub const FAR_TURNS: u32 = 1_000_000;
 
 /// Everything that one round of all entries takes.
 #[derive(Clone, PartialEq, Eq, Debug)]
@@ -73,9 +80,18 @@ fn longest_horizon(bus: Option<&Bus>, turns: u64) -> u64 {
 }
 
 fn traffic<'a>(random: &mut Random, bus: Option<&'a Bus>) -> Traffic<'a> {
-    let turns = [100, 1_000, 5_000, 30_000, MOST_TURNS];
-    let longest = longest_horizon(bus, turns[random.weighted(&[40, 35, 18, 5, 2])]);
-    let span = match random.percent(60) {
+    let turns = [100, 1_000, 5_000, 30_000, USUAL_TURNS, MOST_TURNS];
+    // With slots long enough, the most turns come to the last tick; with long
+    // messages too, the last of them goes on well past it.
+    let to_the_end = longest_horizon(bus, MOST_TURNS) == u64::from(LAST_TICK);
+    let weights = match bus {
+        Some(bus) if to_the_end && bus.message_ticks >= 500 => [12, 12, 6, 5, 5, 60],
+        _ if to_the_end => [32, 28, 15, 5, 5, 15],
+        _ => [40, 35, 17, 5, 2, 1],
+    };
+    let most = turns[random.weighted(&weights)];
+    let longest = longest_horizon(bus, most);
+    let span = match most == MOST_TURNS || random.percent(60) {
         true => longest,
         false => random.between(1, longest),
     };
@@ -88,7 +104,7 @@ fn traffic<'a>(random: &mut Random, bus: Option<&'a Bus>) -> Traffic<'a> {
 
 fn horizon(random: &mut Random, traffic: &Traffic) -> u32 {
     let cycle = traffic.bus.map_or(17, Bus::cycle);
-    let longest = longest_horizon(traffic.bus, MOST_TURNS);
+    let longest = longest_horizon(traffic.bus, USUAL_TURNS);
     let ticks = match random.weighted(&[3, 10, 80, 3, 2, 1, 1]) {
         0 => 0,
         1 => random.between(1, cycle).min(longest),

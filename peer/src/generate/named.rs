@@ -128,6 +128,45 @@ fn demand_past_32_bits() -> Vec<Named> {
     ]
 }
 
+/// Begins around the last tick: silent slots of 2,997 ticks come to tick
+/// 999,999,999.
+fn late_begins() -> Vec<Named> {
+    let end = LAST_TICK - 1;
+    let around = vec![end, 1, end, 1, end, 1, LAST_TICK, 1];
+    let full = releases(16, |_| [end, 1]);
+    vec![
+        (
+            "begins before, at and after the last tick",
+            plain(one_node(1, 2_997, 16, &[(9, 9)]), around, LAST_TICK),
+        ),
+        (
+            "a full turn of the longest messages at the end",
+            plain(one_node(10_000, 2_997, 16, &[(9, 9)]), full, LAST_TICK),
+        ),
+    ]
+}
+
+/// A stream in time after 259 cycles of 2,570,000 ticks. The one above has the
+/// least period with which it is in time itself.
+fn long_wait() -> Vec<Named> {
+    let least = 2_570_000 + 10_000 - 1;
+    let mut nodes = vec![NodePlan {
+        budget: 1,
+        streams: vec![(LAST_TICK, LAST_TICK), (least, least)],
+    }];
+    nodes.resize_with(16, || NodePlan {
+        budget: 16,
+        streams: vec![],
+    });
+    let plan = Plan {
+        message: 10_000,
+        slot: 10_000,
+        nodes,
+    };
+    let case = plain(plan.words(), vec![0, 1, 0, 2], 1_000_000);
+    vec![("a wait of nine digits", case)]
+}
+
 fn large_sheets() -> Vec<Named> {
     let far = [(LAST_TICK, LAST_TICK); 16];
     let spread = releases(4_096, |release| [release / 256, release % 256 + 1]);
@@ -238,6 +277,8 @@ pub fn named() -> Vec<Named> {
         many_turns(),
         many_tries(),
         demand_past_32_bits(),
+        late_begins(),
+        long_wait(),
         large_sheets(),
         large_logs(),
         refused(),

@@ -192,6 +192,43 @@ fn fill_long_search(plan: &mut Plan, random: &mut Random) {
     }
 }
 
+/// A stream that waits for about 10^8 to 10^9 ticks and is in time. As in a
+/// long search, but over long cycles: of many slots and short messages, or of
+/// the full turns of many other nodes.
+fn fill_long_wait(plan: &mut Plan, random: &mut Random) {
+    plan.slot = random.between(5_000, 10_000) as u32;
+    plan.message = random.between(1, 3) as u32;
+    if random.percent(30) {
+        plan.message = random.between(5_000, 10_000) as u32;
+        plan.nodes.resize_with(16, || NodePlan {
+            budget: 16,
+            streams: vec![],
+        });
+        plan.nodes.iter_mut().for_each(|node| node.budget = 16);
+    }
+    if random.percent(50) {
+        let nodes = plan.nodes.iter_mut();
+        nodes.for_each(|node| node.streams.truncate(1));
+    }
+    let node = random.below(plan.nodes.len() as u64) as usize;
+    plan.nodes[node].budget = 1;
+    fill_roomy(plan, random);
+    let cycle = plan.cycle();
+    let wait = random.between(120_000_000, 900_000_000);
+    // A gap of a message keeps the stream above in time itself.
+    let gap = u64::from(plan.message).max(cycle * cycle / wait);
+    let above = bounded(cycle + gap);
+    let below = bounded(wait + random.between(100_000_000, 900_000_000));
+    plan.nodes[node].streams = vec![(above, above), (below, below)];
+}
+
+/// Long messages and slots: the last tick is not many turns away.
+fn fill_slow(plan: &mut Plan, random: &mut Random) {
+    plan.slot = random.between(500, 10_000) as u32;
+    plan.message = random.between(500, 10_000) as u32;
+    fill_roomy(plan, random);
+}
+
 fn extreme_ticks(random: &mut Random, most: u32) -> u32 {
     let ticks = match random.weighted(&[20, 20, 20, 40]) {
         0 => random.pick(&[1, 1, 2, 3]),
@@ -248,7 +285,7 @@ pub(super) fn valid_sheet(random: &mut Random) -> (Vec<u32>, u64) {
     let mut plan = shape(random);
     // Few of the others are worth a long search for a stream that is late.
     let mut tries = [1_000, 10_000, MOST_TRIES][random.weighted(&[5, 2, 1])];
-    match random.weighted(&[43, 12, 13, 8, 12, 2, 10]) {
+    match random.weighted(&[40, 12, 13, 8, 12, 2, 10, 2, 3]) {
         0 => fill_roomy(&mut plan, random),
         1 => fill_tied(&mut plan, random),
         2 => fill_tight(&mut plan, random),
@@ -258,6 +295,11 @@ pub(super) fn valid_sheet(random: &mut Random) -> (Vec<u32>, u64) {
         }
         4 => fill_extreme(&mut plan, random),
         6 => fill_edges(&mut plan, random),
+        7 => {
+            fill_long_wait(&mut plan, random);
+            tries = MOST_TRIES;
+        }
+        8 => fill_slow(&mut plan, random),
         _ => {
             fill_overload(&mut plan, random);
             tries = MOST_TRIES;
