@@ -30,8 +30,6 @@ pub record Judged (s : List ℕ) (k j : ℕ) (answer : Answer) : Type 0 where
   pub listed : (wait J : ℕ) → (answer ≡ success wait J) ↔ StreamWait s k j J wait
   -- "a stream is called late exactly when no such wait meets its deadline"
   pub late : (answer ≡ refuse 7 k j) ↔ StreamLate s k j
-  -- it is one of the two
-  pub decided : (answer .number ≡ 0) ⊎ (answer .number ≡ 7)
   -- the place in the turn, "x = H(J × C − 1) − (J − 1) × m", is no negative number
   pub placed : (wait J : ℕ) → StreamWait s k j J wait → pred J * budget s k ≤ interference (higherStreams s k j) (J * cycle s - 1)
 
@@ -50,7 +48,7 @@ pub record AllJudged (s : List ℕ) (answer : Answer) (words : List ℕ) : Type 
       → OnSheet s k j
       → runningNumber s k j < runningNumber s (answer .second) (answer .third)
       → (J wait : ℕ) × StreamWait s k j J wait
-  -- it is one of the two
+  -- it is one of the two: a sheet is admitted unless a stream is late
   pub decided : (answer .number ≡ 0) ⊎ (answer .number ≡ 7)
 
 -- Demand 2, whole: for any valid sheet, each stream by its one-stream answer, and all of them by what admit answers and writes,

@@ -3,6 +3,7 @@
 use Prim.Native.Nat.{ℕ, zero, suc, _+_, _-_, _*_, _≤_, _<_}
 use native.Mathlib.Omega.{arith}
 use mathlib.Core.Path.{_≡_, refl, ap, _∙_}
+use mathlib.Core.Logic.{inl, inr}
 use mathlib.Core.Bool.{true, false≢true}
 use mathlib.Core.List.{List, [], _∷_}
 use Rattle.theory.specs.Sum.{sum, upTo}
@@ -14,7 +15,7 @@ use Rattle.model.specs.Sheet.{word, cycle, OnSheet, rowWrong, rowRefusal
 use Rattle.model.specs.Analysis.{streamOf, streamsFrom, outranks, above, mostReleases, interference, waitFor, lateAt, verdictAt, search, verdict, higherStreams, verdictOf}
 use Rattle.model.specs.Protocol.{KeepsPeriod, ofNode, queuedBefore, waiting, beginsFrom, serve, nextNode, nextBus, turn, start, stateAt, startOf, nodeOf, TurnsBefore, run, replayed}
 use Rattle.model.specs.Answers.{roomRefusal, tickBefore, releaseRefusal, logRefusal, horizonRefusal, unknownRefusal, verdictAnswer, lateRefusal, nodeLateRefusal, waitWord, waitsFrom, nodeWaitsFrom, bufferAfter, oneStreamAnswer, admitAnswer, admitBuffer, replayAnswer, stepped}
-use Rattle.model.specs.Demand.{StreamWait, StreamLate, messagesOf, BeginsWithin, NextTurn, PeriodsKept, DueBefore, WholeReplay}
+use Rattle.model.specs.Demand.{StreamWait, StreamLate, AllJudged, messagesOf, BeginsWithin, NextTurn, PeriodsKept, DueBefore, WholeReplay}
 use Rattle.model.specs.Bench.{sheetA, logCrowded, logPeriodic}
 use Rattle.model.proofs.Protocol.Run.{turns-unique}
 use Rattle.model.proofs.Answers.Stepping.{inFront, stepping}
@@ -235,6 +236,32 @@ second =
       refused = all37 .refused refl;
       before = all37 .first refl 1 1 (on-37 1 (omega arith) (omega arith)) (omega arith);
     }
+
+-- No stream of sheet A is late, so that demand 2 leaves admit no answer but number 0, whatever it writes.
+none-late : (k j : ℕ) → OnSheet A k j → StreamLate A k j → ⊥
+unfolding
+    sheetA sum upTo cycle refuseIf _orElse_ firstOf outside
+    rowWrong rowRefusal streamWrong streamRefusal bodyRefusal headerRefusal sheetRefusal
+    streamsFrom outranks above mostReleases interference waitFor lateAt verdictAt search verdict verdictOf
+    unknownRefusal verdictAnswer oneStreamAnswer
+none-late zero j on late = omega (arith, on .nodeFrom)
+none-late (suc zero) zero on late = omega (arith, on .streamFrom)
+none-late (suc zero) (suc zero) on late = omega (arith, ap (λ (a : Answer). a .number) (demand2 .oneStream A refl 1 1 on .late .1 late))
+none-late (suc zero) (suc (suc zero)) on late = omega (arith, ap (λ (a : Answer). a .number) (demand2 .oneStream A refl 1 2 on .late .1 late))
+none-late (suc zero) (suc (suc (suc j))) on late = omega (arith, on .streamTo)
+none-late (suc (suc zero)) zero on late = omega (arith, on .streamFrom)
+none-late (suc (suc zero)) (suc zero) on late = omega (arith, ap (λ (a : Answer). a .number) (demand2 .oneStream A refl 2 1 on .late .1 late))
+none-late (suc (suc zero)) (suc (suc j)) on late = omega (arith, on .streamTo)
+none-late (suc (suc (suc k))) j on late = omega (arith, on .nodeTo)
+
+pub must-admit : (answer : Answer) (words : List ℕ) → AllJudged A answer words → answer .number ≡ 0
+must-admit answer words all =
+    elim (all .decided) [
+      | inl admitted ↦ admitted
+      | inr refused ↦
+          let stream = all .refused refused in
+          absurd (none-late (answer .second) (answer .third) (stream .0) (stream .1))
+    ]
 
 -- Stepping applied: three steps from (0, 1, 0) over a buffer a word longer than the crowded log are its replay up to 18.
 pub crowded-steps : stepped A logCrowded 3 (inFront (9 ∷ []) (start logCrowded))

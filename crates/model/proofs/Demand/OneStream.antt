@@ -1,7 +1,7 @@
 -- Demand 2 about one stream: what it is answered is the literal wait and J, or late, by its verdict. Assumes nothing.
 use Prim.Native.Nat.{ℕ, _<_}
 use mathlib.Core.Path.{_≡_, refl, _∙_, ap}
-use mathlib.Core.Logic.{_↔_, _⊎_, inl, inr}
+use mathlib.Core.Logic.{_↔_}
 use mathlib.Core.List.{List}
 use native.Mathlib.Omega.{arith}
 use native.Mathlib.Nat.{suc-ne-zero}
@@ -51,11 +51,6 @@ answer-late k j (Listed w i) = (
   λ e. absurd (omega (arith, ap (λ (v : Verdict). verdictAnswer k j v .number) e)),
 )
 
-answer-either : (k j : ℕ) (v : Verdict) → (verdictAnswer k j v .number ≡ 0) ⊎ (verdictAnswer k j v .number ≡ 7)
-unfolding verdictAnswer
-answer-either k j Late = inr refl
-answer-either k j (Listed w i) = inl refl
-
 -- What is said of one stream.
 pub stream-judged : (s : List ℕ) (k j : ℕ) → Valid s → OnSheet s k j → Judged s k j (oneStreamAnswer s k j)
 stream-judged s k j valid on =
@@ -68,6 +63,5 @@ stream-judged s k j valid on =
         λ h. answer-listed k j v wait J .1 (exact .listed wait J .1 h),
       );
       late = (λ e. exact .late .0 (answer-late k j v .0 e), λ h. answer-late k j v .1 (exact .late .1 h));
-      decided = answer-either k j v;
       placed = λ wait J h. stream-placed s k j (h .least);
     })
