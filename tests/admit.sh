@@ -59,8 +59,18 @@ words long $sheet_a 7
 admit "a word too many" "$work/long" "refused 4 at 0 0"
 words due 2 5 1 9 2 1 13 1 2 40 40 60 61 30 30
 admit "a deadline over its period" "$work/due" "refused 5 at 1 2"
+words p2 2 5 1 9 2 1 13 1 2 40 40 60 38 30 30
+admit "P2" "$work/p2" "node stream wait" "1 1 33" "1 2 16" "2 1 16" "admitted 3"
 words p3 2 5 1 9 2 1 13 1 2 40 40 60 37 30 30
-admit "P3" "$work/p3" "refused 7 at 1 2"
+admit "P3" "$work/p3" "node stream wait" "1 1 33" "1 2 16" "2 1 16" "admitted 3"
+
+# Equal deadlines: the shorter period is ranked above, and of equal periods the lower number. 38 just fits a wait of 33.
+words period 2 5 1 9 2 1 13 1 2 61 38 60 38 30 30
+admit "a tie of deadlines" "$work/period" "node stream wait" "1 1 33" "1 2 16" "2 1 16" "admitted 3"
+words number 2 5 1 9 2 1 13 1 2 60 38 60 38 30 30
+admit "a tie of deadlines and periods" "$work/number" "node stream wait" "1 1 16" "1 2 33" "2 1 16" "admitted 3"
+words behind 2 5 1 9 2 1 13 1 2 40 37 60 37 30 30
+admit "the second stream late" "$work/behind" "refused 7 at 1 2"
 words late 1 5 1 6 2 1 100 6 9 9
 admit "the first late in sheet order" "$work/late" "refused 7 at 1 1"
 words idle 3 5 1 12 0 1 12 0 1 12 0 1

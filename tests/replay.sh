@@ -47,6 +47,14 @@ replay "a turn that passes the horizon" "$a" "$work/cut" "release begin" "1 1" "
 words rank 10 0 2 0 1
 replay "rank before log order" "$a" "$work/rank" "release begin" "1 7" "2 0" "turns 3 next 13"
 
+words both 10 0 1 0 2
+words p2 2 5 1 9 2 1 13 1 2 40 40 60 38 30 30
+replay "rank by deadline" "$work/p2" "$work/both" "release begin" "1 7" "2 0" "turns 3 next 13"
+words period 2 5 1 9 2 1 13 1 2 61 38 60 38 30 30
+replay "a tie of deadlines" "$work/period" "$work/both" "release begin" "1 7" "2 0" "turns 3 next 13"
+words number 2 5 1 9 2 1 13 1 2 60 38 60 38 30 30
+replay "a tie of deadlines and periods" "$work/number" "$work/both" "release begin" "1 0" "2 7" "turns 3 next 13"
+
 words horizon 5
 replay "a horizon alone: the empty log" "$a" "$work/horizon" "release begin" "turns 5 next 5"
 : >"$work/empty"

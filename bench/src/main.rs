@@ -190,6 +190,29 @@ fn even_log(releases: u32, horizon: u32) -> Vec<u32> {
     (0..releases).flat_map(|i| [i * apart, 1 + i % 3]).collect()
 }
 
+/// All releases come at tick 0: to many nodes, so that most looks at a release
+/// pass it, and to one node, so that each look compares two streams.
+fn replay_backlogs() {
+    let nodes: Vec<(u32, Vec<(u32, u32)>)> = (0..16).map(|_| (4, vec![(1000, 1000); 16])).collect();
+    let flood: Vec<u32> = (0..4096).flat_map(|i| [0, 1 + i % 256]).collect();
+    replay_pair(
+        "a backlog of 4,096 at tick 0, sixteen nodes",
+        &sheet(5, 1, &nodes),
+        &flood,
+        1_000_000,
+    );
+    let mut random = Random(20_261_116);
+    let mut near = |ticks: u32| ticks + random.below(1_000) as u32;
+    let streams = (0..16).map(|_| (near(100_000), near(50_000))).collect();
+    let rivals: Vec<u32> = (0..1024).flat_map(|_| [0, 1 + near(0) % 16]).collect();
+    replay_pair(
+        "a backlog of 1,024 at tick 0, one node of sixteen streams",
+        &sheet(5, 1, &[(4, streams)]),
+        &rivals,
+        1_000_000,
+    );
+}
+
 const SHEET_A: [u32; 15] = [2, 5, 1, 9, 2, 1, 13, 1, 2, 40, 40, 60, 60, 30, 30];
 
 fn replay() {
@@ -213,14 +236,7 @@ fn replay() {
         .flat_map(|&(tick, stream)| [tick, stream])
         .collect();
     replay_pair("a bus loaded to nine tenths", &busy, &loaded, horizon);
-    let nodes: Vec<(u32, Vec<(u32, u32)>)> = (0..16).map(|_| (4, vec![(1000, 1000); 16])).collect();
-    let flood: Vec<u32> = (0..4096).flat_map(|i| [0, 1 + i % 256]).collect();
-    replay_pair(
-        "a backlog of 4,096 at tick 0, sixteen nodes",
-        &sheet(5, 1, &nodes),
-        &flood,
-        1_000_000,
-    );
+    replay_backlogs();
     for horizon in [1_000_000, 10_000_000, 100_000_000, far] {
         replay_pair(
             &format!("4,096 releases, horizon {horizon}"),

@@ -1,5 +1,6 @@
 //! The proved library against variants of the second program that make the
-//! errors listed in document 01. Each of them has to differ somewhere.
+//! errors listed in document 01, or go by a wrong rank. Each of them has to
+//! differ somewhere.
 
 use peer::broken;
 use peer::generate::{case, Case};
@@ -12,7 +13,7 @@ enum Entry {
     Replay(fn(&[u32], &[u32], u32, &mut [u32]) -> peer::Answer),
 }
 
-const VARIANTS: [(&str, Entry); 5] = [
+const VARIANTS: [(&str, Entry); 11] = [
     (
         "1, releases counted by ceiling",
         Entry::Admit(broken::admit_by_ceiling),
@@ -33,10 +34,34 @@ const VARIANTS: [(&str, Entry); 5] = [
         "5, waits written before a late stream is found",
         Entry::Admit(broken::admit_writing_early),
     ),
+    (
+        "6, waits ranked by period",
+        Entry::Admit(broken::admit_ranked_by_period),
+    ),
+    (
+        "7, replay ranked by period",
+        Entry::Replay(broken::replay_ranked_by_period),
+    ),
+    (
+        "8, waits with equal deadlines ranked by number",
+        Entry::Admit(broken::admit_tied_by_number),
+    ),
+    (
+        "9, replay with equal deadlines ranked by number",
+        Entry::Replay(broken::replay_tied_by_number),
+    ),
+    (
+        "10, waits with ties ranked by the higher number",
+        Entry::Admit(broken::admit_tied_by_higher_number),
+    ),
+    (
+        "11, replay with ties ranked by the higher number",
+        Entry::Replay(broken::replay_tied_by_higher_number),
+    ),
 ];
 
 /// For each variant, what the library and the variant give if they differ.
-fn differences(case: &Case) -> [Option<(Outcome, Outcome)>; 5] {
+fn differences(case: &Case) -> [Option<(Outcome, Outcome)>; VARIANTS.len()] {
     let (sheet, log, horizon) = (&case.sheet, &case.log, case.horizon);
     let admit = proved(&case.room, |room| wistorvan::raw::admit(sheet, room));
     let replay = proved(&case.room, |room| {
@@ -56,7 +81,7 @@ fn differences(case: &Case) -> [Option<(Outcome, Outcome)>; 5] {
 
 /// Whether each variant was caught.
 pub fn run(seed: u64, count: u64) -> bool {
-    let mut caught = [(0u64, None); 5];
+    let mut caught = [(0u64, None); VARIANTS.len()];
     for index in 0..count {
         let found = differences(&case(seed, index));
         for ((times, first), _) in caught.iter_mut().zip(found).filter(|(_, it)| it.is_some()) {

@@ -40,7 +40,7 @@ impl Interference {
             streams: [Progress::default(); MOST_STREAMS_A_NODE],
             count: 0,
         };
-        let node = &bus.nodes()[bus.streams()[stream].node];
+        let node = &bus.nodes()[bus.node_of(stream)];
         for other in node.first..node.first + node.count {
             if bus.priority(other) < bus.priority(stream) {
                 sum.add(u64::from(bus.streams()[other].period), cycle);
@@ -88,7 +88,7 @@ pub(crate) fn last_try(bus: &Bus, stream: usize) -> u64 {
 /// the deadline plays no part here.
 pub(crate) fn least_cycles(bus: &Bus, stream: usize, last: u64) -> Option<Listed> {
     let cycle = bus.cycle();
-    let budget = bus.nodes()[bus.streams()[stream].node].budget as u64;
+    let budget = bus.nodes()[bus.node_of(stream)].budget as u64;
     let mut sum = Interference::first(bus, stream, cycle);
     for cycles in 1..=last {
         if sum.releases < cycles * budget {
@@ -123,25 +123,40 @@ pub fn one_stream(sheet: &[u32], node: u32, stream: u32) -> Answer {
     }
 }
 
-/// Writes the listed waits of all streams, or refuses and writes none.
-pub fn admit(sheet: &[u32], room: &mut [u32]) -> Answer {
-    let bus = match Bus::read(sheet) {
-        Ok(bus) => bus,
-        Err(answer) => return answer,
-    };
-    let count = bus.streams().len();
-    if room.len() < count {
-        return refusal(6, 0, 0);
+/// The bus of a sheet that has room enough for its waits.
+pub(crate) fn check(sheet: &[u32], room: &[u32]) -> Result<Bus, Answer> {
+    let bus = Bus::read(sheet)?;
+    match room.len() < bus.streams().len() {
+        true => Err(refusal(6, 0, 0)),
+        false => Ok(bus),
     }
+}
+
+/// The refusal of a sheet with this late stream.
+pub(crate) fn late(bus: &Bus, stream: usize) -> Answer {
+    let (node, number) = bus.place(stream);
+    refusal(7, node, number)
+}
+
+/// Writes the waits of all streams into a room that is long enough.
+pub(crate) fn write_waits(bus: &Bus, room: &mut [u32]) -> Answer {
+    let count = bus.streams().len();
     // Kept apart until all are known: a late stream leaves the room untouched.
     let mut waits = [0u32; MOST_STREAMS];
     for (stream, wait) in waits[..count].iter_mut().enumerate() {
-        let Some(found) = listed(&bus, stream) else {
-            let (node, number) = bus.place(stream);
-            return refusal(7, node, number);
-        };
-        *wait = found.wait as u32;
+        match listed(bus, stream) {
+            Some(found) => *wait = found.wait as u32,
+            None => return late(bus, stream),
+        }
     }
     room[..count].copy_from_slice(&waits[..count]);
     success(count as u64, bus.cycle())
+}
+
+/// Writes the listed waits of all streams, or refuses and writes none.
+pub fn admit(sheet: &[u32], room: &mut [u32]) -> Answer {
+    match check(sheet, room) {
+        Ok(bus) => write_waits(&bus, room),
+        Err(answer) => answer,
+    }
 }

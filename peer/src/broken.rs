@@ -1,11 +1,11 @@
-//! The five errors that document 01 has seen in fitters' sheets, each made on
-//! purpose, so that a comparison can show that it catches them. All else is
-//! as in the good program.
+//! The five errors that document 01 has seen in fitters' sheets, and three
+//! wrong ranks, each made on purpose, so that a comparison can show that it
+//! catches them. All else is as in the good program.
 
-use crate::admission::{last_try, listed};
-use crate::replay::{check, Operation};
-use crate::sheet::Bus;
-use crate::{refusal, success, Answer, NOT_BEGUN};
+use crate::admission::{last_try, late, listed, write_waits};
+use crate::replay::{write_begins, Operation};
+use crate::sheet::{by_deadline, Bus, Rank, MOST_STREAMS_A_NODE};
+use crate::{admission, replay, success, Answer, NOT_BEGUN};
 
 /// A bus whose clock may stand still is given up after so many turns.
 pub const MOST_TURNS: u64 = 100_000;
@@ -17,11 +17,11 @@ pub fn admit_by_ceiling(sheet: &[u32], room: &mut [u32]) -> Answer {
 
 /// Error 2: a message released during a turn joins it.
 pub fn replay_joining(sheet: &[u32], log: &[u32], horizon: u32, room: &mut [u32]) -> Answer {
-    let (bus, releases) = match check(sheet, log, horizon, room) {
-        Ok(accepted) => accepted,
+    let bus = match replay::check(sheet, log, horizon, room) {
+        Ok(bus) => bus,
         Err(answer) => return answer,
     };
-    room[..releases].fill(NOT_BEGUN);
+    room[..log.len() / 2].fill(NOT_BEGUN);
     let operation = &mut Operation::new(&bus, log);
     run(operation, horizon, u64::MAX, |operation, node, start| {
         serve_joining(operation, node, start, room) * bus.message_ticks + bus.slot_ticks
@@ -41,11 +41,11 @@ pub fn replay_without_silent_slots(
     horizon: u32,
     room: &mut [u32],
 ) -> Answer {
-    let (bus, releases) = match check(sheet, log, horizon, room) {
-        Ok(accepted) => accepted,
+    let bus = match replay::check(sheet, log, horizon, room) {
+        Ok(bus) => bus,
         Err(answer) => return answer,
     };
-    room[..releases].fill(NOT_BEGUN);
+    room[..log.len() / 2].fill(NOT_BEGUN);
     let operation = &mut Operation::new(&bus, log);
     run(operation, horizon, MOST_TURNS, |operation, node, start| {
         if operation.earliest[node] > start {
@@ -57,7 +57,7 @@ pub fn replay_without_silent_slots(
 
 /// Error 5: writes each wait as it is found, even if a later stream is late.
 pub fn admit_writing_early(sheet: &[u32], room: &mut [u32]) -> Answer {
-    let bus = match check_admit(sheet, room) {
+    let bus = match admission::check(sheet, room) {
         Ok(bus) => bus,
         Err(answer) => return answer,
     };
@@ -70,23 +70,83 @@ pub fn admit_writing_early(sheet: &[u32], room: &mut [u32]) -> Answer {
     success(bus.streams().len() as u64, bus.cycle())
 }
 
-/// The refusals of admit before the waits.
-fn check_admit(sheet: &[u32], room: &[u32]) -> Result<Bus, Answer> {
-    let bus = Bus::read(sheet)?;
-    match room.len() < bus.streams().len() {
-        true => Err(refusal(6, 0, 0)),
-        false => Ok(bus),
+/// Error 6: the old rank, by which no deadline counts.
+pub fn admit_ranked_by_period(sheet: &[u32], room: &mut [u32]) -> Answer {
+    admit_ranked(sheet, room, by_period)
+}
+
+/// Error 7: the same in the replay.
+pub fn replay_ranked_by_period(
+    sheet: &[u32],
+    log: &[u32],
+    horizon: u32,
+    room: &mut [u32],
+) -> Answer {
+    replay_ranked(sheet, log, horizon, room, by_period)
+}
+
+/// Error 8: equal deadlines go by the stream number, whatever the periods.
+pub fn admit_tied_by_number(sheet: &[u32], room: &mut [u32]) -> Answer {
+    admit_ranked(sheet, room, without_period)
+}
+
+/// Error 9: the same in the replay.
+pub fn replay_tied_by_number(sheet: &[u32], log: &[u32], horizon: u32, room: &mut [u32]) -> Answer {
+    replay_ranked(sheet, log, horizon, room, without_period)
+}
+
+/// Error 10: of equal deadlines and periods, the higher stream number first.
+pub fn admit_tied_by_higher_number(sheet: &[u32], room: &mut [u32]) -> Answer {
+    admit_ranked(sheet, room, higher_number_first)
+}
+
+/// Error 11: the same in the replay.
+pub fn replay_tied_by_higher_number(
+    sheet: &[u32],
+    log: &[u32],
+    horizon: u32,
+    room: &mut [u32],
+) -> Answer {
+    replay_ranked(sheet, log, horizon, room, higher_number_first)
+}
+
+// The wrong ranks: the right one without a level, or with one turned round.
+
+fn by_period(_: u64, period: u64, number: u64) -> u64 {
+    by_deadline(0, period, number)
+}
+
+fn without_period(deadline: u64, _: u64, number: u64) -> u64 {
+    by_deadline(deadline, 0, number)
+}
+
+fn higher_number_first(deadline: u64, period: u64, number: u64) -> u64 {
+    by_deadline(deadline, period, MOST_STREAMS_A_NODE as u64 - 1 - number)
+}
+
+fn admit_ranked(sheet: &[u32], room: &mut [u32], rank: Rank) -> Answer {
+    match admission::check(sheet, room) {
+        Ok(mut bus) => {
+            bus.rank_by(rank);
+            write_waits(&bus, room)
+        }
+        Err(answer) => answer,
     }
 }
 
-fn late(bus: &Bus, stream: usize) -> Answer {
-    let (node, number) = bus.place(stream);
-    refusal(7, node, number)
+fn replay_ranked(sheet: &[u32], log: &[u32], horizon: u32, room: &mut [u32], rank: Rank) -> Answer {
+    match replay::check(sheet, log, horizon, room) {
+        Ok(mut bus) => {
+            bus.rank_by(rank);
+            write_begins(&bus, log, horizon, room)
+        }
+        Err(answer) => answer,
+    }
 }
 
 /// Admits with another count of releases, given a window and a period.
 fn admit_counting(sheet: &[u32], room: &mut [u32], count: fn(u64, u64) -> u64) -> Answer {
-    let bus = match check_admit(sheet, room) {
+    let bus = match admission::check(sheet, room) {
         Ok(bus) => bus,
         Err(answer) => return answer,
     };
@@ -102,7 +162,7 @@ fn admit_counting(sheet: &[u32], room: &mut [u32], count: fn(u64, u64) -> u64) -
 }
 
 fn wait_counting(bus: &Bus, stream: usize, count: fn(u64, u64) -> u64) -> Option<u64> {
-    let node = &bus.nodes()[bus.streams()[stream].node];
+    let node = &bus.nodes()[bus.node_of(stream)];
     let (cycle, budget) = (bus.cycle(), node.budget as u64);
     let above: Vec<u64> = (node.first..node.first + node.count)
         .filter(|&other| bus.priority(other) < bus.priority(stream))

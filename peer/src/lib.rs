@@ -1,8 +1,9 @@
-//! The independent second program: written from document 01 alone, so that
-//! the proved program can be compared with it. It shares no code with that
-//! program, and keeps other accounts: running remainders in the search for J,
-//! one queue a stream in the replay. That J is tried from 1 up, as far as the
-//! deadline allows, is the same in both.
+//! The independent second program: written from document 01 and, for the
+//! rank, request One of document 02 alone, so that the proved program can be
+//! compared with it. It shares no code with that program, and keeps other
+//! accounts: running remainders in the search for J, one queue a stream in the
+//! replay. That J is tried from 1 up, as far as the deadline allows, is the
+//! same in both.
 //!
 //! Every entry is total: whatever is handed in gets an answer, and a refusal
 //! changes no lent word.

@@ -126,13 +126,8 @@ impl<'a> Operation<'a> {
     }
 }
 
-/// The bus and the number of releases of what a replay accepts.
-pub(crate) fn check(
-    sheet: &[u32],
-    log: &[u32],
-    horizon: u32,
-    room: &[u32],
-) -> Result<(Bus, usize), Answer> {
+/// The bus of what a replay accepts.
+pub(crate) fn check(sheet: &[u32], log: &[u32], horizon: u32, room: &[u32]) -> Result<Bus, Answer> {
     let bus = Bus::read(sheet)?;
     let releases = check_log(log, bus.streams().len())?;
     if horizon > LAST_TICK {
@@ -141,16 +136,20 @@ pub(crate) fn check(
     if room.len() < releases {
         return Err(refusal(6, 0, 0));
     }
-    Ok((bus, releases))
+    Ok(bus)
+}
+
+/// Writes the begin ticks of an accepted log.
+pub(crate) fn write_begins(bus: &Bus, log: &[u32], horizon: u32, room: &mut [u32]) -> Answer {
+    room[..log.len() / 2].fill(NOT_BEGUN);
+    let (turns, next) = Operation::new(bus, log).run(u64::from(horizon), room);
+    success(turns, next)
 }
 
 /// Replays a log from tick 0 up to the horizon and writes the begin ticks.
 pub fn replay(sheet: &[u32], log: &[u32], horizon: u32, room: &mut [u32]) -> Answer {
-    let (bus, releases) = match check(sheet, log, horizon, room) {
-        Ok(accepted) => accepted,
-        Err(answer) => return answer,
-    };
-    room[..releases].fill(NOT_BEGUN);
-    let (turns, next) = Operation::new(&bus, log).run(u64::from(horizon), room);
-    success(turns, next)
+    match check(sheet, log, horizon, room) {
+        Ok(bus) => write_begins(&bus, log, horizon, room),
+        Err(answer) => answer,
+    }
 }

@@ -17,10 +17,20 @@ const STREAM_WORDS: usize = 2;
 
 #[derive(Clone, Copy, Default)]
 pub(crate) struct Stream {
-    /// Index of its node, from 0.
-    pub node: usize,
     pub period: u32,
     pub deadline: u32,
+    priority: u64,
+}
+
+/// Makes the priority of a stream out of its deadline, its period and its
+/// number within the node, from 0.
+pub(crate) type Rank = fn(u64, u64, u64) -> u64;
+
+/// Shorter deadline first, then shorter period, then lower number, as one
+/// number that is quick to compare: deadline and period are below 2^30 and the
+/// number is below 2^4, so the three fit side by side.
+pub(crate) fn by_deadline(deadline: u64, period: u64, number: u64) -> u64 {
+    deadline << 34 | period << 4 | number
 }
 
 #[derive(Clone, Copy, Default)]
@@ -39,6 +49,9 @@ pub(crate) struct Bus {
     stream_count: usize,
     nodes: [Node; MOST_NODES],
     streams: [Stream; MOST_STREAMS],
+    /// Index of the node of each stream; apart, which keeps a stream at 16
+    /// bytes and the whole quick to clear and to hand over.
+    node_of: [u8; MOST_STREAMS],
 }
 
 /// Refusals 1 to 5 with their place, or 0 0 0 for a valid sheet.
@@ -57,6 +70,7 @@ impl Bus {
             return Err(refusal(4, 0, 0));
         }
         bus.read_bodies(sheet)?;
+        bus.rank_by(by_deadline);
         Ok(bus)
     }
 
@@ -78,6 +92,7 @@ impl Bus {
             stream_count: 0,
             nodes: [Node::default(); MOST_NODES],
             streams: [Stream::default(); MOST_STREAMS],
+            node_of: [0; MOST_STREAMS],
         })
     }
 
@@ -120,13 +135,27 @@ impl Bus {
                     return Err(refusal(5, node as u32 + 1, number as u32 + 1));
                 }
                 self.streams[stream] = Stream {
-                    node,
                     period,
                     deadline,
+                    priority: 0,
                 };
+                self.node_of[stream] = node as u8;
             }
         }
         Ok(())
+    }
+
+    /// Sets all priorities, once, since they are asked for again and again.
+    /// Only a program that is wrong on purpose calls this a second time.
+    #[inline]
+    pub fn rank_by(&mut self, rank: Rank) {
+        for node in &self.nodes[..self.node_count] {
+            let streams = &mut self.streams[node.first..][..node.count];
+            for (number, stream) in (0..).zip(streams) {
+                let (deadline, period) = (stream.deadline.into(), stream.period.into());
+                stream.priority = rank(deadline, period, number);
+            }
+        }
     }
 
     pub fn nodes(&self) -> &[Node] {
@@ -137,21 +166,26 @@ impl Bus {
         &self.streams[..self.stream_count]
     }
 
+    /// Index of the node of a stream, from 0.
+    pub fn node_of(&self, stream: usize) -> usize {
+        usize::from(self.node_of[stream])
+    }
+
     /// The full cycle: every node sends its whole budget.
     pub fn cycle(&self) -> u64 {
         let budgets: u64 = self.nodes().iter().map(|node| node.budget as u64).sum();
         budgets * self.message_ticks + self.node_count as u64 * self.slot_ticks
     }
 
-    /// Smaller means served first. Only meant within one node, where the
-    /// order of the table is the order of the stream numbers.
-    pub fn priority(&self, stream: usize) -> (u32, usize) {
-        (self.streams[stream].period, stream)
+    /// Smaller means served first. Only meant within one node, where no two
+    /// streams have the same.
+    pub fn priority(&self, stream: usize) -> u64 {
+        self.streams[stream].priority
     }
 
     /// Node and stream within the node, both from 1.
     pub fn place(&self, stream: usize) -> (u32, u32) {
-        let node = self.streams[stream].node;
+        let node = self.node_of(stream);
         let number = stream - self.nodes[node].first;
         (node as u32 + 1, number as u32 + 1)
     }

@@ -1,10 +1,12 @@
 //! How generated cases spread over the answers and over their causes. The
 //! causes are read off the words here, apart from the code that refuses.
 
+mod rank;
+
 use std::collections::BTreeMap;
 use std::fmt;
 
-use crate::admission::last_try;
+use crate::admission::{last_try, least_cycles};
 use crate::generate::{case, total_tries, Case, FAR_BEGIN, FAR_TURNS, FAR_WAIT};
 use crate::sheet::{Bus, LAST_TICK};
 use crate::{admit, check_sheet, one_stream, replay, step, Answer, NOT_BEGUN};
@@ -130,19 +132,39 @@ fn count_sheet(figures: &mut Figures, case: &Case) {
     for row in case.sheet[3..].chunks_exact(3).take(case.sheet[0] as usize) {
         figures.add(format!("node of {:2} streams", row[1]));
     }
-    if has_ties(&case.sheet) {
-        figures.total("sheet with equal periods in a node", 1);
+    for level in rank::of_sheet(&case.sheet) {
+        figures.add(format!("sheet ranked by {level}"));
     }
     if demand_is_wide(&case.sheet) {
         figures.total("sheet with a sum past 32 bits", 1);
     }
     let answer = admit(&case.sheet, &mut [0; 256]);
-    if answer.number == 0 {
-        figures.total("sheet admitted", 1);
-        if answer.second > 0 {
-            figures.total("sheet admitted with streams", 1);
-        }
+    let admitted = answer.number == 0;
+    figures.total("sheet admitted", u64::from(admitted));
+    if admitted && answer.second > 0 {
+        figures.total("sheet admitted with streams", 1);
     }
+    count_edges(figures, &case.sheet, admitted);
+}
+
+/// Whether some stream meets its deadline to the tick, or misses it by one.
+fn count_edges(figures: &mut Figures, sheet: &[u32], admitted: bool) {
+    let Ok(bus) = Bus::read(sheet) else { return };
+    let (mut in_time, mut late) = (false, false);
+    for stream in 0..bus.streams().len() {
+        // A stream late by one may need one J more than is worth a try.
+        let Some(found) = least_cycles(&bus, stream, last_try(&bus, stream) + 1) else {
+            continue;
+        };
+        let delivered = found.wait + bus.message_ticks;
+        let deadline = u64::from(bus.streams()[stream].deadline);
+        in_time |= delivered == deadline;
+        late |= delivered == deadline + 1;
+    }
+    figures.total("sheet with a stream just in time", u64::from(in_time));
+    let both = in_time && admitted;
+    figures.total("sheet admitted with a stream just in time", u64::from(both));
+    figures.total("sheet with a stream late by one tick", u64::from(late));
 }
 
 /// Whether some search sums up more releases than 32 bits hold.
@@ -152,7 +174,7 @@ fn demand_is_wide(sheet: &[u32]) -> bool {
     };
     let releases = |stream: usize| {
         let window = last_try(&bus, stream) * bus.cycle();
-        let node = &bus.nodes()[bus.streams()[stream].node];
+        let node = &bus.nodes()[bus.node_of(stream)];
         let others = node.first..node.first + node.count;
         others
             .filter(|&other| bus.priority(other) < bus.priority(stream))
@@ -160,16 +182,6 @@ fn demand_is_wide(sheet: &[u32]) -> bool {
             .sum::<u64>()
     };
     (0..bus.streams().len()).any(|stream| releases(stream) > u64::from(u32::MAX))
-}
-
-fn has_ties(sheet: &[u32]) -> bool {
-    let rows = sheet[3..].chunks_exact(3).take(sheet[0] as usize);
-    rows.into_iter().any(|row| {
-        let body = sheet[row[0] as usize..].chunks_exact(2);
-        let mut periods: Vec<u32> = body.take(row[1] as usize).map(|pair| pair[0]).collect();
-        periods.sort_unstable();
-        periods.windows(2).any(|two| two[0] == two[1])
-    })
 }
 
 fn question_cause(case: &Case) -> &'static str {
@@ -282,6 +294,9 @@ fn count_replay(figures: &mut Figures, case: &Case) {
                 "replay 0, horizon 10^9",
                 u64::from(case.horizon == LAST_TICK),
             );
+            for level in rank::of_replay(case, &room) {
+                figures.add(format!("replay 0, ordered by {level}"));
+            }
         }
         9 => figures.add(format!("replay 9 {}", log_cause(&case.log, answer))),
         number => figures.add(format!("replay {number}")),
@@ -315,6 +330,9 @@ fn count_step(figures: &mut Figures, case: &Case) {
             let mut words = room.iter().zip(&case.step_room);
             let far = words.any(|(new, old)| new != old && *new > FAR_BEGIN);
             figures.total("step 0, a begin over 10^9", u64::from(far));
+            for level in rank::of_step(case, &room) {
+                figures.add(format!("step 0, ordered by {level}"));
+            }
         }
         9 => figures.add(format!("step 9 {}", log_cause(&case.log, answer))),
         16 => figures.add(format!("step 16 {}", record_cause(case))),

@@ -1,4 +1,5 @@
-//! P1 to P12 of document 01, with every value.
+//! P1 to P12 of document 01, with every value; P2 and P3 as request One of
+//! document 02 has them.
 
 mod common;
 
@@ -13,15 +14,49 @@ fn p1_sheet_a_lists_16_33_16() {
     assert_eq!(one_stream(&SHEET_A, 2, 1), answer(0, 16, 1));
 }
 
-#[test]
-fn p2_deadline_38_is_just_met() {
-    let sheet = sheet_a_with(&[(12, 38)]);
-    assert_eq!(admitted(&sheet, 3), (answer(0, 3, 17), vec![16, 33, 16]));
+/// Sheet A with another deadline for the second stream of node 1; below 40 it
+/// ranks above the first.
+fn second_deadline(deadline: u32) -> Vec<u32> {
+    sheet_a_with(&[(12, deadline)])
 }
 
 #[test]
-fn p3_deadline_37_is_late() {
-    let sheet = sheet_a_with(&[(12, 37)]);
+fn p2_deadline_38_ranks_the_second_first() {
+    let sheet = second_deadline(38);
+    assert_eq!(admitted(&sheet, 3), (answer(0, 3, 17), vec![33, 16, 16]));
+    assert_eq!(one_stream(&sheet, 1, 1), answer(0, 33, 2));
+    assert_eq!(one_stream(&sheet, 1, 2), answer(0, 16, 1));
+}
+
+#[test]
+fn p3_deadline_37_is_admitted_too() {
+    let sheet = second_deadline(37);
+    assert_eq!(admitted(&sheet, 3), (answer(0, 3, 17), vec![33, 16, 16]));
+    assert_eq!(one_stream(&sheet, 1, 1), answer(0, 33, 2));
+    assert_eq!(one_stream(&sheet, 1, 2), answer(0, 16, 1));
+}
+
+#[test]
+fn deadlines_around_those_of_p2_and_p3() {
+    for deadline in [21, 39] {
+        let given = admitted(&second_deadline(deadline), 3);
+        assert_eq!(given, (answer(0, 3, 17), vec![33, 16, 16]));
+    }
+    // Equal deadlines: the first has the shorter period.
+    for deadline in [40, 41] {
+        let given = admitted(&second_deadline(deadline), 3);
+        assert_eq!(given, (answer(0, 3, 17), vec![16, 33, 16]));
+    }
+    // Late even as the first of its node.
+    assert_admit_refused(&second_deadline(20), answer(7, 1, 2));
+}
+
+#[test]
+fn a_deadline_of_38_behind_another_is_just_met() {
+    // The first stream has the shorter deadline, so the second waits for 33.
+    let sheet = sheet_a_with(&[(10, 30), (12, 38)]);
+    assert_eq!(admitted(&sheet, 3), (answer(0, 3, 17), vec![16, 33, 16]));
+    let sheet = sheet_a_with(&[(10, 30), (12, 37)]);
     assert_admit_refused(&sheet, answer(7, 1, 2));
     assert_eq!(one_stream(&sheet, 1, 2), answer(7, 1, 2));
     assert_eq!(one_stream(&sheet, 1, 1), answer(0, 16, 1));
@@ -59,7 +94,7 @@ fn p6_second_stream_of_node_2_lists_21() {
 fn p6_deadline_of_the_stream_behind_another() {
     // Delivered 26 ticks after its release at the latest, not 21.
     for (deadline, expected) in [(26, answer(0, 21, 1)), (25, answer(7, 2, 2))] {
-        let behind = [(30, 30), (50, deadline)];
+        let behind = [(30, 25), (50, deadline)];
         let sheet = sheet(5, 1, &[(1, &[(40, 40), (60, 60)]), (2, &behind)]);
         assert_eq!(one_stream(&sheet, 2, 2), expected);
     }

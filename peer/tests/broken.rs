@@ -3,7 +3,8 @@
 mod common;
 
 use common::*;
-use peer::{admit, broken, replay, Answer};
+use peer::generate::{case, Case};
+use peer::{admit, broken, check_sheet, replay, Answer};
 
 type Admit = fn(&[u32], &mut [u32]) -> Answer;
 type Replay = fn(&[u32], &[u32], u32, &mut [u32]) -> Answer;
@@ -25,8 +26,8 @@ fn by_ceiling() {
     assert_eq!(waits(admit, &p5, 3).1, [16, 50, 16]);
     assert_eq!(waits(entry, &p5, 3).1, [16, 33, 16]);
     assert_eq!(waits(entry, &SHEET_A, 3), waits(admit, &SHEET_A, 3));
-    let p3 = sheet_a_with(&[(12, 37)]);
-    assert_eq!(waits(entry, &p3, 3), (answer(7, 1, 2), vec![OLD; 3]));
+    let late = sheet_a_with(&[(14, 20)]);
+    assert_eq!(waits(entry, &late, 3), (answer(7, 2, 1), vec![OLD; 3]));
 }
 
 #[test]
@@ -79,4 +80,163 @@ fn writing_early() {
     assert_eq!(waits(admit, &late, 3), (refused, vec![OLD; 3]));
     assert_eq!(waits(entry, &late, 3), (refused, vec![16, 33, OLD]));
     assert_eq!(waits(entry, &SHEET_A, 3), waits(admit, &SHEET_A, 3));
+}
+
+#[test]
+fn ranked_by_period() {
+    let entry = broken::admit_ranked_by_period;
+    // P2 and P3 as they were under the old rank.
+    let p2 = sheet_a_with(&[(12, 38)]);
+    assert_eq!(waits(admit, &p2, 3).1, [33, 16, 16]);
+    assert_eq!(waits(entry, &p2, 3).1, [16, 33, 16]);
+    let p3 = sheet_a_with(&[(12, 37)]);
+    assert_eq!(waits(admit, &p3, 3).1, [33, 16, 16]);
+    assert_eq!(waits(entry, &p3, 3), (answer(7, 1, 2), vec![OLD; 3]));
+    assert_eq!(waits(entry, &SHEET_A, 3), waits(admit, &SHEET_A, 3));
+    let entry = broken::replay_ranked_by_period;
+    let log = [0, 1, 0, 2];
+    assert_eq!(begins(replay, &p3, &log, 20).1, [7, 0]);
+    assert_eq!(begins(entry, &p3, &log, 20).1, [0, 7]);
+    let good = begins(replay, &SHEET_A, &log, 20);
+    assert_eq!(begins(entry, &SHEET_A, &log, 20), good);
+}
+
+/// One node with two streams, a cycle of 6 ticks.
+fn pair(first: (u32, u32), second: (u32, u32)) -> Vec<u32> {
+    sheet(5, 1, &[(1, &[first, second])])
+}
+
+#[test]
+fn tied_by_number() {
+    let higher = pair((60, 40), (50, 40));
+    let lower = pair((50, 40), (60, 40));
+    let entry = broken::admit_tied_by_number;
+    assert_eq!(waits(admit, &higher, 2).1, [11, 5]);
+    assert_eq!(waits(entry, &higher, 2).1, [5, 11]);
+    assert_eq!(waits(entry, &lower, 2), waits(admit, &lower, 2));
+    let entry = broken::replay_tied_by_number;
+    let log = [0, 1, 0, 2];
+    assert_eq!(begins(replay, &higher, &log, 12).1, [6, 0]);
+    assert_eq!(begins(entry, &higher, &log, 12).1, [0, 6]);
+    let good = begins(replay, &lower, &log, 12);
+    assert_eq!(begins(entry, &lower, &log, 12), good);
+}
+
+#[test]
+fn tied_by_higher_number() {
+    let tied = pair((50, 40), (50, 40));
+    let period = pair((60, 40), (50, 40));
+    let entry = broken::admit_tied_by_higher_number;
+    assert_eq!(waits(admit, &tied, 2).1, [5, 11]);
+    assert_eq!(waits(entry, &tied, 2).1, [11, 5]);
+    assert_eq!(waits(entry, &period, 2), waits(admit, &period, 2));
+    let entry = broken::replay_tied_by_higher_number;
+    let log = [0, 1, 0, 2];
+    assert_eq!(begins(replay, &tied, &log, 12).1, [0, 6]);
+    assert_eq!(begins(entry, &tied, &log, 12).1, [6, 0]);
+    let good = begins(replay, &period, &log, 12);
+    assert_eq!(begins(entry, &period, &log, 12), good);
+}
+
+/// Makes of deadline, period and number what the streams of a node go by.
+type Key = fn(u32, u32, u32) -> (u32, u32, u32);
+
+/// The numbers of each node's streams from 0, first served first; nothing for
+/// a sheet that is refused.
+fn orders(sheet: &[u32], key: Key) -> Vec<Vec<u32>> {
+    if check_sheet(sheet).number != 0 {
+        return vec![];
+    }
+    let order = |streams: &Vec<(u32, u32)>| {
+        let mut order: Vec<u32> = (0..streams.len() as u32).collect();
+        order.sort_by_key(|&number| {
+            let (period, deadline) = streams[number as usize];
+            key(deadline, period, number)
+        });
+        order
+    };
+    bodies(sheet).iter().map(order).collect()
+}
+
+fn admits_differ(bad: Admit, case: &Case) -> bool {
+    let given = |entry: Admit| {
+        let mut room = case.room.clone();
+        (entry(&case.sheet, &mut room), room)
+    };
+    given(admit) != given(bad)
+}
+
+fn replays_differ(bad: Replay, case: &Case) -> bool {
+    let given = |entry: Replay| {
+        let mut room = case.room.clone();
+        let given = entry(&case.sheet, &case.log, case.horizon, &mut room);
+        (given, room)
+    };
+    given(replay) != given(bad)
+}
+
+/// Of 2,000 generated cases.
+fn count(differ: impl Fn(&Case) -> bool) -> usize {
+    let cases = (0..2_000).map(|index| case(1, index));
+    cases.filter(|case| differ(case)).count()
+}
+
+#[test]
+fn listed_errors_on_generated_cases() {
+    let errors = [
+        count(|case| admits_differ(broken::admit_by_ceiling, case)),
+        count(|case| replays_differ(broken::replay_joining, case)),
+        count(|case| admits_differ(broken::admit_one_release_each, case)),
+        count(|case| replays_differ(broken::replay_without_silent_slots, case)),
+        count(|case| admits_differ(broken::admit_writing_early, case)),
+    ];
+    // The first needs a period that divides a window without a rest.
+    let least = [5, 70, 80, 400, 70];
+    let mut pairs = errors.iter().zip(least);
+    assert!(pairs.all(|(&cases, least)| cases >= least), "{errors:?}");
+}
+
+/// How often the two entries with one wrong rank differ from the good ones.
+/// Where that rank gives the right orders, they must not.
+fn wrong_rank(key: Key, bad_admit: Admit, bad_replay: Replay) -> (usize, usize) {
+    let right: Key = |deadline, period, number| (deadline, period, number);
+    let checked = |differ: bool, case: &Case| {
+        let sheet = &case.sheet;
+        assert!(!differ || orders(sheet, right) != orders(sheet, key));
+        differ
+    };
+    (
+        count(|case| checked(admits_differ(bad_admit, case), case)),
+        count(|case| checked(replays_differ(bad_replay, case), case)),
+    )
+}
+
+#[test]
+fn ranked_by_period_on_generated_cases() {
+    let differing = wrong_rank(
+        |_, period, number| (period, number, 0),
+        broken::admit_ranked_by_period,
+        broken::replay_ranked_by_period,
+    );
+    assert!(differing.0 >= 250 && differing.1 >= 90, "{differing:?}");
+}
+
+#[test]
+fn tied_by_number_on_generated_cases() {
+    let differing = wrong_rank(
+        |deadline, _, number| (deadline, number, 0),
+        broken::admit_tied_by_number,
+        broken::replay_tied_by_number,
+    );
+    assert!(differing.0 >= 100 && differing.1 >= 40, "{differing:?}");
+}
+
+#[test]
+fn tied_by_higher_number_on_generated_cases() {
+    let differing = wrong_rank(
+        |deadline, period, number| (deadline, period, u32::MAX - number),
+        broken::admit_tied_by_higher_number,
+        broken::replay_tied_by_higher_number,
+    );
+    assert!(differing.0 >= 120 && differing.1 >= 60, "{differing:?}");
 }

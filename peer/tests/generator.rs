@@ -53,7 +53,6 @@ fn cases_spread_over_all_answers() {
         &["replay 0, horizon 10^9", "sheet with a sum past 32 bits"],
         1,
     );
-    least(&["sheet with equal periods in a node"], 200);
     least(&["admit 0, a wait over 10^8"], 15);
     least(&["one stream 0, a wait over 10^8"], 3);
     least(&["replay 0, a begin over 10^9"], 5);
@@ -63,6 +62,38 @@ fn cases_spread_over_all_answers() {
         for length in ["empty", "short", "exact", "longer"] {
             least(&[&format!("room of {entry} {length}")], 50);
         }
+    }
+}
+
+/// Shares of 5,000 cases in which one level of the rank decided, and in which
+/// a deadline was met or missed by a hair.
+#[test]
+fn cases_spread_over_all_levels_of_the_rank() {
+    let figures = gather(8, 5_000);
+    let least = |kind: &str, shares: [u64; 5]| {
+        let levels = [
+            "deadline against period",
+            "deadline against number",
+            "period along with number",
+            "period against number",
+            "number",
+        ];
+        for (level, share) in levels.into_iter().zip(shares) {
+            let name = format!("{kind} {level}");
+            let count = figures.count(&name);
+            assert!(count >= share, "{name}: {count} of at least {share}");
+        }
+    };
+    least("sheet ranked by", [1_400, 400, 750, 750, 1_000]);
+    least("replay 0, ordered by", [300, 70, 140, 140, 200]);
+    least("step 0, ordered by", [170, 25, 60, 60, 110]);
+    for (name, share) in [
+        ("sheet with a stream just in time", 150),
+        ("sheet admitted with a stream just in time", 110),
+        ("sheet with a stream late by one tick", 150),
+    ] {
+        let count = figures.count(name);
+        assert!(count >= share, "{name}: {count} of at least {share}");
     }
 }
 
@@ -179,6 +210,37 @@ fn named_long_searches() {
             answer(7, late.node, late.stream),
             "{name}"
         );
+    }
+}
+
+#[test]
+fn named_ranks() {
+    let begins = |name: &str| {
+        let mut case = find(name);
+        replay(&case.sheet, &case.log, case.horizon, &mut case.room);
+        case.room[..case.log.len() / 2].to_vec()
+    };
+    // Each stream is released twice; whichever ranks first goes first twice.
+    for (name, first) in [
+        ("the shorter deadline first", 1),
+        ("the shorter period first", 1),
+        ("the lower number first", 0),
+    ] {
+        let mut expected = [12, 12, 18, 18];
+        (expected[first], expected[first + 2]) = (0, 6);
+        assert_eq!(begins(name), expected, "{name}");
+    }
+    // Streams 3, 6, .. have the least of both, then come 2, 5, .. and 1, 4, ..
+    let order = [3, 6, 9, 12, 15, 2, 5, 8, 11, 14, 1, 4, 7, 10, 13, 16];
+    for name in [
+        "all levels of the rank at the far end",
+        "all levels of the rank at both ends",
+    ] {
+        let begins = begins(name);
+        let mut served: Vec<u32> = (1..=16).collect();
+        // Release 1 is of stream 16, and so on down to release 16.
+        served.sort_by_key(|&stream| begins[16 - stream as usize]);
+        assert_eq!(served, order, "{name}");
     }
 }
 

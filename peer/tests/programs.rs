@@ -50,8 +50,16 @@ fn admit_sheet_a_to_the_byte() {
 }
 
 #[test]
+fn admit_keeps_sheet_order_whatever_the_rank() {
+    let p3 = bytes(&sheet_a_with(&[(12, 37)]));
+    let expected = "node stream wait\n1 1 33\n1 2 16\n2 1 16\nadmitted 3\n";
+    assert_eq!(admit_program(&p3), expected);
+    assert_eq!(run_admit(&p3), expected);
+}
+
+#[test]
 fn admit_refuses_in_one_line() {
-    let late = bytes(&sheet_a_with(&[(12, 37)]));
+    let late = bytes(&sheet_a_with(&[(10, 30), (12, 37)]));
     assert_eq!(admit_program(&late), "refused 7 at 1 2\n");
     assert_eq!(run_admit(&late), "refused 7 at 1 2\n");
     let short = bytes(&SHEET_A[..14]);
@@ -100,6 +108,16 @@ fn replay_p9_to_the_byte() {
     assert_eq!(replay_program(&sheet, &second), REPLAYED_P9);
     let files = [file("p9-sheet", &sheet), file("p9-second", &second)];
     assert_eq!(run_replay(&files), REPLAYED_P9);
+}
+
+#[test]
+fn replay_of_p9_with_the_deadline_of_p3() {
+    // Stream 2 goes first now; what stream 3 does is the same.
+    let sheet = bytes(&sheet_a_with(&[(12, 37)]));
+    assert_eq!(
+        replay_program(&sheet, &bytes(&SECOND_P9)),
+        "release begin\n1 12\n2 0\n3 6\nturns 25 next 40\n"
+    );
 }
 
 #[test]

@@ -42,10 +42,92 @@ fn priority_goes_before_log_order() {
     assert_eq!(replayed(&SHEET_A, &[0, 2, 0, 1], 10).1, [7, 0]);
 }
 
+/// Releases streams of one node at tick 0, with a budget of 1, and answers
+/// their numbers in the order of the begins. Single steps must give the same
+/// begins as the replay, and one turn with budget for all the same order.
+fn order_of_begins(streams: &[(u32, u32)], released: &[u32]) -> Vec<u32> {
+    let sheet_of = |budget: u32| sheet(5, 1, &[(budget, streams)]);
+    let log: Vec<u32> = released.iter().flat_map(|&stream| [0, stream]).collect();
+    let begins = replayed(&sheet_of(1), &log, 6 * released.len() as u32).1;
+    let mut stepped = vec![NOT_BEGUN; released.len()];
+    let mut at = record(0, 1, 0);
+    for _ in released {
+        let given = step(&sheet_of(1), &log, &mut at, &mut stepped);
+        assert_eq!((given.number, given.second), (0, 1));
+    }
+    assert_eq!(stepped, begins);
+    let mut whole = vec![NOT_BEGUN; released.len()];
+    step(&sheet_of(16), &log, &mut record(0, 1, 0), &mut whole);
+    let mut order: Vec<usize> = (0..released.len()).collect();
+    order.sort_by_key(|&release| begins[release]);
+    let in_turn: Vec<u32> = order.iter().map(|&release| whole[release]).collect();
+    let expected: Vec<u32> = (0..released.len() as u32).map(|taken| 5 * taken).collect();
+    assert_eq!(in_turn, expected);
+    order.iter().map(|&release| released[release]).collect()
+}
+
 #[test]
-fn equal_periods_go_by_stream_number() {
-    let sheet = sheet(5, 1, &[(1, &[(50, 20), (50, 50), (50, 10)])]);
-    assert_eq!(replayed(&sheet, &[0, 3, 0, 2, 0, 1], 20).1, [12, 6, 0]);
+fn the_shorter_deadline_goes_first() {
+    // By period the order would be 1 2 3.
+    let streams = [(30, 30), (40, 20), (50, 10)];
+    for released in [[1, 2, 3], [3, 2, 1], [2, 3, 1]] {
+        assert_eq!(order_of_begins(&streams, &released), [3, 2, 1]);
+    }
+    // Equal periods do not matter while the deadlines differ.
+    let streams = [(50, 20), (50, 50), (50, 10)];
+    assert_eq!(order_of_begins(&streams, &[1, 2, 3]), [3, 1, 2]);
+    // One tick less than the other is enough, however long the period.
+    let streams = [(30, 30), (1_000_000_000, 29)];
+    assert_eq!(order_of_begins(&streams, &[1, 2]), [2, 1]);
+}
+
+#[test]
+fn equal_deadlines_go_by_the_shorter_period() {
+    let streams = [(50, 30), (40, 30), (30, 30)];
+    for released in [[1, 2, 3], [3, 2, 1], [2, 3, 1]] {
+        assert_eq!(order_of_begins(&streams, &released), [3, 2, 1]);
+    }
+    let streams = [(30, 30), (40, 30), (50, 30)];
+    assert_eq!(order_of_begins(&streams, &[3, 2, 1]), [1, 2, 3]);
+    let streams = [(1_000_000_000, 1), (999_999_999, 1)];
+    assert_eq!(order_of_begins(&streams, &[1, 2]), [2, 1]);
+}
+
+#[test]
+fn equal_deadlines_and_periods_go_by_the_lower_number() {
+    let streams = [(50, 30), (50, 30), (50, 30)];
+    for released in [[1, 2, 3], [3, 2, 1], [2, 3, 1]] {
+        assert_eq!(order_of_begins(&streams, &released), [1, 2, 3]);
+    }
+}
+
+#[test]
+fn all_levels_of_the_rank_together() {
+    let streams = [(60, 40), (50, 40), (90, 20), (50, 40), (40, 40), (40, 39)];
+    let released = [6, 5, 4, 3, 2, 1, 3];
+    let expected = [3, 3, 6, 5, 2, 4, 1];
+    assert_eq!(order_of_begins(&streams, &released), expected);
+}
+
+#[test]
+fn waits_read_the_same_rank() {
+    // In a cycle of 6 ticks with budget 1, each one above costs a cycle.
+    let streams = [(60, 40), (50, 40), (90, 20), (50, 40), (40, 40), (40, 39)];
+    let sheet = sheet(5, 1, &[(1, &streams)]);
+    for (stream, above) in (1..).zip([5, 3, 0, 4, 2, 1]) {
+        let expected = answer(0, 6 * above + 5, above + 1);
+        assert_eq!(one_stream(&sheet, 1, stream), expected, "stream {stream}");
+    }
+}
+
+#[test]
+fn a_rank_is_for_one_node_only() {
+    // Node 2's stream has the shortest deadline of all; node 1 still goes
+    // first, and its own order stays.
+    let sheet = sheet(5, 1, &[(1, &[(40, 40), (60, 30)]), (1, &[(10, 1)])]);
+    let log = [0, 3, 0, 1, 0, 2];
+    assert_eq!(replayed(&sheet, &log, 20).1, [6, 12, 0]);
+    assert_eq!(one_stream(&sheet, 1, 2), answer(0, 11, 1));
 }
 
 #[test]
@@ -64,7 +146,7 @@ fn a_turn_begun_before_the_horizon_is_finished() {
 
 #[test]
 fn a_waiting_stream_of_lower_priority_gives_way_to_a_later_release() {
-    // At 6 both wait again; the stream of shorter period goes first.
+    // At 6 both wait again; the stream of shorter deadline goes first.
     assert_eq!(replayed(&SHEET_P7, &[0, 1, 0, 2, 6, 1], 18).1, [0, 12, 6]);
 }
 

@@ -2,6 +2,8 @@
 
 mod common;
 
+use std::cmp::Ordering;
+
 use common::*;
 use peer::generate::{case, Case};
 use peer::{admit, check_sheet, one_stream, replay, step, Answer, Record};
@@ -9,8 +11,9 @@ use peer::{admit, check_sheet, one_stream, replay, step, Answer, Record};
 /// A valid sheet, taken apart in the plainest way.
 struct Plain {
     message: u64,
+    slot: u64,
     cycle: u64,
-    /// Budget and streams of each node.
+    /// Budget and streams of each node; period and deadline of a stream.
     nodes: Vec<(u64, Vec<(u64, u64)>)>,
 }
 
@@ -27,19 +30,39 @@ fn plain(sheet: &[u32]) -> Plain {
     let budgets: u64 = nodes.iter().map(|node| node.0).sum();
     Plain {
         message: word(1),
+        slot: word(2),
         cycle: budgets * word(1) + word(0) * word(2),
         nodes,
     }
+}
+
+/// The rank by the words of the request: shorter deadline first, then shorter
+/// period, then lower stream number. Numbers are those in the node, from 0.
+fn ranks_above(streams: &[(u64, u64)], one: usize, other: usize) -> bool {
+    let (period, deadline) = streams[one];
+    let (other_period, other_deadline) = streams[other];
+    if deadline != other_deadline {
+        return deadline < other_deadline;
+    }
+    if period != other_period {
+        return period < other_period;
+    }
+    one < other
+}
+
+fn least_common_multiple(one: u64, other: u64) -> u64 {
+    let (mut divisor, mut rest) = (one, other);
+    while rest > 0 {
+        (divisor, rest) = (rest, divisor % rest);
+    }
+    one / divisor * other
 }
 
 impl Plain {
     /// Periods of the streams above, node and stream from 0.
     fn above(&self, node: usize, stream: usize) -> Vec<u64> {
         let streams = &self.nodes[node].1;
-        let own = streams[stream].0;
-        let ranks_above =
-            |other: usize| streams[other].0 < own || streams[other].0 == own && other < stream;
-        let others = (0..streams.len()).filter(|&other| ranks_above(other));
+        let others = (0..streams.len()).filter(|&other| ranks_above(streams, other, stream));
         others.map(|other| streams[other].0).collect()
     }
 
@@ -56,12 +79,14 @@ impl Plain {
 
     /// A J up to which one must be found if there is one at all. H at
     /// J × C − 1 is the sum of J × C / period, each rounded up, hence less
-    /// than J × (sum of C / period) + 15. If the sum in brackets is below the
-    /// budget, it is by at least 1 / (product of periods), and J of 15 times
-    /// that product serves; if not, none ever does.
+    /// than J × (sum of C / period) + the number of streams above. If the sum
+    /// in brackets is below the budget, it is by at least 1 / (least common
+    /// multiple of the periods), and J of that multiple times the number of
+    /// streams serves; if not, none ever does.
     fn sure_bound(&self, node: usize, stream: usize) -> u64 {
-        let product: u64 = self.above(node, stream).iter().product();
-        15 * product + 1
+        let above = self.above(node, stream);
+        let multiple = above.iter().copied().fold(1, least_common_multiple);
+        above.len() as u64 * multiple + 1
     }
 
     fn expected(&self, node: usize, stream: usize, most: u64) -> Answer {
@@ -75,17 +100,44 @@ impl Plain {
     }
 }
 
+/// How the deadlines of a small sheet go with its periods.
+const STYLES: u32 = 4;
+
+/// Streams with these periods. Style 0 has deadlines like the periods and a
+/// last stream that has to wait long; the others have ties of deadlines, the
+/// opposite order to the periods, or some of both.
+fn small_streams(periods: [u32; 3], number: u32, style: u32) -> Vec<(u32, u32)> {
+    if style == 0 {
+        let last = (100_000, [40, 400, 100_000][number as usize % 3]);
+        let first = periods.map(|period| (period, period));
+        return [&first[..], &[last]].concat();
+    }
+    let [one, two, three] = periods.map(|period| 4 * period);
+    let mut all = [one, two, three, 30];
+    // The last place too is for any of the periods.
+    all.rotate_left(number as usize % 4);
+    let shortest = *all.iter().min().unwrap();
+    let stream = |place: usize| {
+        let shorter = all.iter().filter(|&&period| period < all[place]).count() as u32;
+        let deadline = match style {
+            1 => shortest,
+            2 => shortest - shorter,
+            _ => shortest - 2 * (number >> place & 1),
+        };
+        (all[place], deadline)
+    };
+    (0..4).map(stream).collect()
+}
+
 /// Small sheets of one or two nodes, all combinations of a few numbers.
-fn small_sheets() -> Vec<Vec<u32>> {
+fn small_sheets(style: u32) -> Vec<Vec<u32>> {
     let mut sheets = Vec::new();
     for number in 0..1_536u32 {
         let digit = |divisor: u32, base: u32| number / divisor % base;
         let (message, slot) = (1 + digit(1, 2), 1 + digit(2, 3));
         let (budget, other) = (1 + digit(6, 2), digit(12, 2));
         let periods = [2 + digit(24, 8), 3 + 2 * digit(192, 8), 7];
-        let deadline = [40, 400, 100_000][number as usize % 3];
-        let first: Vec<(u32, u32)> = periods.iter().map(|&period| (period, period)).collect();
-        let all = [&first[..], &[(100_000, deadline)]].concat();
+        let all = small_streams(periods, number, style);
         let rest = [(9, 9)];
         let nodes: Vec<(u32, &[(u32, u32)])> = match other {
             0 => vec![(budget, &all)],
@@ -96,10 +148,18 @@ fn small_sheets() -> Vec<Vec<u32>> {
     sheets
 }
 
-#[test]
-fn listed_waits_of_small_sheets_without_any_cut() {
-    let (mut served, mut late, mut long) = (0, 0, 0);
-    for sheet in small_sheets() {
+/// How often a stream of the last node was served in 1 or 2 cycles, in more,
+/// or late.
+#[derive(Default, Debug)]
+struct Served {
+    soon: u32,
+    long: u32,
+    late: u32,
+}
+
+fn check_without_any_cut(style: u32) -> Served {
+    let mut served = Served::default();
+    for sheet in small_sheets(style) {
         let plain = plain(&sheet);
         let node = plain.nodes.len() - 1;
         for stream in 0..4 {
@@ -107,21 +167,46 @@ fn listed_waits_of_small_sheets_without_any_cut() {
             let expected = plain.expected(node, stream, most);
             let given = one_stream(&sheet, node as u32 + 1, stream as u32 + 1);
             assert_eq!(given, expected, "{sheet:?} stream {}", stream + 1);
-            match given {
-                Answer {
-                    number: 0,
-                    third: 3..,
-                    ..
-                } => long += 1,
-                Answer { number: 0, .. } => served += 1,
-                _ => late += 1,
+            match (given.number, given.third) {
+                (0, ..3) => served.soon += 1,
+                (0, _) => served.long += 1,
+                _ => served.late += 1,
             }
         }
     }
-    assert!(
-        served > 100 && late > 100 && long > 100,
-        "{served} {late} {long}"
-    );
+    served
+}
+
+#[test]
+fn listed_waits_of_small_sheets_without_any_cut() {
+    for style in 0..STYLES {
+        let served = check_without_any_cut(style);
+        let least = served.soon.min(served.long).min(served.late);
+        assert!(least > 100, "style {style}: {served:?}");
+    }
+}
+
+/// How often each level of the rank orders two streams of a small sheet: the
+/// deadline against the period, the period, the number.
+#[test]
+fn small_sheets_have_ties_of_each_kind() {
+    let mut levels = [0; 3];
+    for streams in (1..STYLES)
+        .flat_map(small_sheets)
+        .map(|sheet| bodies(&sheet))
+    {
+        let streams = streams.last().unwrap();
+        for (one, other) in (0..4).flat_map(|one| (0..one).map(move |other| (other, one))) {
+            let (one, other) = (streams[one], streams[other]);
+            let against = (one.0 < other.0) == (one.1 > other.1);
+            match one.1 == other.1 {
+                false => levels[0] += u32::from(against && one.0 != other.0),
+                true if one.0 != other.0 => levels[1] += 1,
+                true => levels[2] += 1,
+            }
+        }
+    }
+    assert!(levels.iter().all(|&pairs| pairs > 500), "{levels:?}");
 }
 
 #[test]
@@ -210,6 +295,90 @@ fn replay_is_repeated_stepping() {
     assert!(compared > 500 && begun > 10_000, "{compared} {begun}");
 }
 
+/// One turn by the words of document 01; answers how many it took.
+fn literal_turn(plain: &Plain, log: &[u32], tick: u64, node: usize, begins: &mut [u32]) -> u64 {
+    let (budget, streams) = &plain.nodes[node];
+    let before: usize = plain.nodes[..node].iter().map(|node| node.1.len()).sum();
+    let own = before + 1..before + 1 + streams.len();
+    let mut queue = Vec::new();
+    for (release, words) in log.chunks_exact(2).enumerate() {
+        let running = words[1] as usize;
+        let released = u64::from(words[0]) <= tick;
+        if own.contains(&running) && released && begins[release] == NOT_BEGUN {
+            queue.push((running - 1 - before, release));
+        }
+    }
+    queue.sort_by(|one, other| match one.0 == other.0 {
+        true => one.1.cmp(&other.1),
+        false if ranks_above(streams, one.0, other.0) => Ordering::Less,
+        false => Ordering::Greater,
+    });
+    queue.truncate(*budget as usize);
+    for (taken, (_, release)) in (0..).zip(&queue) {
+        begins[*release] = (tick + taken * plain.message) as u32;
+    }
+    queue.len() as u64
+}
+
+/// Turn by turn from tick 0; answers as the replay does.
+fn literal_replay(case: &Case) -> (Answer, Vec<u32>) {
+    let plain = plain(&case.sheet);
+    let mut begins = vec![NOT_BEGUN; case.log.len() / 2];
+    let (mut tick, mut turns) = (0, 0);
+    while tick < u64::from(case.horizon) {
+        let node = turns % plain.nodes.len();
+        let taken = literal_turn(&plain, &case.log, tick, node, &mut begins);
+        tick += taken * plain.message + plain.slot;
+        turns += 1;
+    }
+    (answer(0, turns as u32, tick as u32), begins)
+}
+
+#[test]
+fn replay_by_the_words() {
+    let (mut compared, mut begun) = (0, 0);
+    for index in 0..3_000 {
+        let case = case(15, index);
+        let mut room = vec![OLD; case.log.len().div_ceil(2)];
+        let given = replay(&case.sheet, &case.log, case.horizon, &mut room);
+        if given.number != 0 || given.second > 3_000 {
+            continue;
+        }
+        begun += room.iter().filter(|&&word| word != NOT_BEGUN).count();
+        assert_eq!((given, room), literal_replay(&case), "case {index}");
+        compared += 1;
+    }
+    assert!(compared > 750 && begun > 15_000, "{compared} {begun}");
+}
+
+#[test]
+fn step_by_the_words() {
+    let (mut compared, mut begun) = (0, 0);
+    for index in 0..5_000 {
+        let case = case(16, index);
+        let (mut record, mut room) = (case.record, case.step_room.clone());
+        let given = step(&case.sheet, &case.log, &mut record, &mut room);
+        if given.number != 0 {
+            continue;
+        }
+        let plain = plain(&case.sheet);
+        let (tick, node) = (u64::from(case.record.tick), case.record.node as usize - 1);
+        let mut begins = case.step_room.clone();
+        let taken = literal_turn(&plain, &case.log, tick, node, &mut begins);
+        let next = (tick + taken * plain.message + plain.slot) as u32;
+        assert_eq!((given, room), (answer(0, taken as u32, next), begins));
+        let after = Record {
+            tick: next,
+            node: (node + 1) as u32 % plain.nodes.len() as u32 + 1,
+            turns: case.record.turns + 1,
+        };
+        assert_eq!(record, after, "case {index}");
+        compared += 1;
+        begun += taken;
+    }
+    assert!(compared > 2_000 && begun > 3_000, "{compared} {begun}");
+}
+
 /// Whether a stream's successive releases in the log are a period apart.
 fn keeps_period(log: &[u32], running: u32, period: u64) -> bool {
     let releases = log.chunks_exact(2).filter(|release| release[1] == running);
@@ -247,8 +416,8 @@ fn no_message_waits_longer_than_listed() {
                 |other: usize| keeps_period(&case.log, first + other as u32, streams[other].0);
             for stream in 0..streams.len() {
                 let given = one_stream(&case.sheet, node as u32 + 1, stream as u32 + 1);
-                let key = |other: usize| (streams[other].0, other);
-                let mut higher = (0..streams.len()).filter(|&other| key(other) <= key(stream));
+                let mut higher = (0..streams.len())
+                    .filter(|&other| other == stream || ranks_above(streams, other, stream));
                 if given.number == 0 && higher.all(kept) {
                     let running = first + stream as u32;
                     checked += check_bound(&case, &begins, running, u64::from(given.second));

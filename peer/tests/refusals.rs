@@ -163,7 +163,7 @@ fn earlier_numbers_go_first() {
 
 #[test]
 fn room_of_admit_goes_before_late() {
-    let late = sheet_a_with(&[(12, 37)]);
+    let late = sheet_a_with(&[(10, 30), (12, 37)]);
     for words in 0..3 {
         assert_eq!(admit(&late, &mut vec![OLD; words]), answer(6, 0, 0));
         let mut room = vec![OLD; words];
@@ -176,7 +176,8 @@ fn room_of_admit_goes_before_late() {
 
 #[test]
 fn the_first_late_stream_in_sheet_order_is_named() {
-    let sheet = [1, 5, 1, 6, 2, 1, 100, 6, 9, 9];
+    // Both are late, and the second ranks above the first.
+    let sheet = [1, 5, 1, 6, 2, 1, 100, 10, 9, 9];
     assert_admit_refused(&sheet, answer(7, 1, 1));
     assert_eq!(one_stream(&sheet, 1, 2), answer(7, 1, 2));
 }

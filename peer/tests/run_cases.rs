@@ -52,6 +52,22 @@ fn sixteen_nodes_of_sixteen_streams() {
 }
 
 #[test]
+fn sixteen_nodes_of_sixteen_streams_in_reverse() {
+    // The deadlines fall with the stream number, so the last ranks first.
+    let streams: Vec<(u32, u32)> = (0..16)
+        .map(|less| (1_000_000_000, 999_999_999 - less))
+        .collect();
+    let full = sheet(10_000, 10_000, &[(16, &streams[..]); 16]);
+    let (given, waits) = admitted(&full, 256);
+    assert_eq!(given, answer(0, 256, 2_720_000));
+    for (stream, wait) in waits.iter().enumerate() {
+        assert_eq!(*wait, 2_719_999 + 10_000 * (15 - stream as u32 % 16));
+    }
+    let log = [0, 1, 0, 15, 0, 16];
+    assert_eq!(replayed(&full, &log, 1).1, [20_000, 10_000, 0]);
+}
+
+#[test]
 fn full_sheet_with_budget_one_waits_sixteen_cycles() {
     let streams = [(100_000, 100_000); 16];
     let full = sheet(3, 2, &[(1, &streams[..]); 16]);

@@ -240,7 +240,8 @@ pub fn one_stream(sheet: &[u32], node: u32, stream: u32) -> Result<ListedWait, R
 /// let mut sheet = [2, 5, 1, 9, 2, 1, 13, 1, 2, 40, 40, 60, 60, 30, 30];
 /// let mut room = [0; MAX_STREAMS];
 /// assert_eq!(admit(&sheet, &mut room).unwrap().waits, [16, 33, 16]);
-/// // The deadline of stream 2 of node 1.
+/// // The deadlines of node 1: the shorter period goes first, and stream 2 is late.
+/// sheet[10] = 37;
 /// sheet[12] = 37;
 /// let refusal = admit(&sheet, &mut room).unwrap_err();
 /// assert_eq!((refusal.reason(), refusal.place()), (Reason::Late, (1, 2)));

@@ -67,8 +67,8 @@ pub enum Reason {
 /// ```
 /// use wistorvan::{admit, Reason};
 ///
-/// // Sheet A with 37 for the second deadline.
-/// let sheet = [2, 5, 1, 9, 2, 1, 13, 1, 2, 40, 40, 60, 37, 30, 30];
+/// // Sheet A with 37 for both deadlines of node 1.
+/// let sheet = [2, 5, 1, 9, 2, 1, 13, 1, 2, 40, 37, 60, 37, 30, 30];
 /// let refusal = admit(&sheet, &mut [0; 3]).unwrap_err();
 /// assert_eq!(refusal.reason(), Reason::Late);
 /// assert_eq!(refusal.number(), 7);

@@ -153,15 +153,24 @@ fn refusals_of_contents_and_bodies() {
 
 #[test]
 fn a_late_stream() {
-    let sheet = sheet_a_with(12, 37);
+    // Equal deadlines, so the shorter period goes first.
+    let both = |deadline| {
+        let mut sheet = sheet_a_with(10, deadline);
+        sheet[12] = deadline;
+        sheet
+    };
+    let sheet = both(37);
     let why = "stream 2 of node 1 would be late";
     let mut room = [7; 3];
     let refusal = admit(&sheet, &mut room).unwrap_err();
     assert_refusal(refusal, Reason::Late, 7, (1, 2), why);
     assert_eq!(room, [7; 3]);
     assert_eq!(one_stream(&sheet, 1, 2), Err(refusal));
-    let admission = admit(&sheet_a_with(12, 38), &mut room).unwrap();
-    assert_eq!(admission.waits[1], 33);
+    let admission = admit(&both(38), &mut room).unwrap();
+    assert_eq!(admission.waits, [16, 33, 16]);
+    // The shorter deadline goes first, though its period is longer.
+    let admission = admit(&sheet_a_with(12, 37), &mut room).unwrap();
+    assert_eq!(admission.waits, [33, 16, 16]);
 }
 
 #[test]

@@ -31,4 +31,4 @@ pub own-above : (s : List ℕ) (k r : ℕ)
     → outranks (streamOf s k (r - streamsBefore s k)) lowest ≡ true
 own-above s k r fits from upTo own =
     let stream = fits .streams k (r - streamsBefore s k) (own-listed s k r from upTo own) in
-    outranks-reading (streamOf s k (r - streamsBefore s k)) lowest .1 (inl (omega (arith, stream .periodTo)))
+    outranks-reading (streamOf s k (r - streamsBefore s k)) lowest .1 (inl (omega (arith, stream .deadlineTo, stream .periodTo)))

@@ -9,7 +9,7 @@ use Rattle.model.specs.Analysis.{streamsFrom, outranks, above, mostReleases, in
 use Rattle.model.specs.Protocol.{ofNode, queuedBefore, waiting, beginsFrom, serve, nextNode, nextBus, turn, start, run, replayed}
 use Rattle.model.specs.Answers.{roomRefusal, tickBefore, releaseRefusal, logRefusal, horizonRefusal, lateRefusal, nodeLateRefusal, waitWord, waitsFrom, nodeWaitsFrom, bufferAfter, unknownRefusal, verdictAnswer, recordRefusal, oneStreamAnswer, admitAnswer, admitBuffer, replayAnswer, replayBuffer, stepRefusal, stepAnswer, stepBus, stepBuffer}
 use Rattle.model.specs.Bench.{sheetA, sheetA6, sheetP7, logP9, logP11}
-use Rattle.cases.specs.Cases.{AllHold, cases, gives, outcomeOf, lent, Further, sheetEqual, madeUpBus, madeUpRoom}
+use Rattle.cases.specs.Cases.{AllHold, cases, gives, outcomeOf, lent, Further, sheetEqual, logBoth, firstTurn, madeUpBus, madeUpRoom}
 
 pub all-hold : AllHold
 unfolding
@@ -29,11 +29,11 @@ unfolding
     refuseIf _orElse_ firstOf outside
     cycle rowWrong rowRefusal streamWrong streamRefusal bodyRefusal headerRefusal sheetRefusal
     streamsFrom outranks above mostReleases interference waitFor lateAt verdictAt search verdict verdictOf
-    ofNode queuedBefore waiting beginsFrom serve nextNode nextBus
+    ofNode queuedBefore waiting beginsFrom serve nextNode nextBus turn start run replayed
     unknownRefusal verdictAnswer oneStreamAnswer
     roomRefusal tickBefore releaseRefusal logRefusal horizonRefusal lateRefusal nodeLateRefusal waitWord waitsFrom nodeWaitsFrom bufferAfter
-    admitAnswer admitBuffer replayAnswer recordRefusal stepRefusal stepAnswer stepBus stepBuffer
-    lent sheetA logP11 sheetEqual madeUpBus madeUpRoom
+    admitAnswer admitBuffer replayAnswer replayBuffer recordRefusal stepRefusal stepAnswer stepBus stepBuffer
+    lent sheetA logP11 sheetEqual logBoth firstTurn madeUpBus madeUpRoom
 further =
     record {
       secondStream = refl;
@@ -41,7 +41,14 @@ further =
       otherNode = refl;
       lateStream = refl;
       unknownStream = refl;
+      lateUnwritten = refl;
       equalPeriods = refl;
+      equalDeadlines = refl;
+      bothEqual = refl;
+      replayByDeadline = refl;
+      replayByPeriod = refl;
+      replayByNumber = refl;
+      stepByDeadline = refl;
       roomBeforeLate = refl;
       sheetBeforeRoom = refl;
       logBeforeHorizon = refl;

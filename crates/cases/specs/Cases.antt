@@ -47,27 +47,36 @@ gives q a words = record { question = q; outcome = record { answer = a; buffer =
 -- P1 to P12, in order.
 unfoldable pub cases : List Case
 cases =
-    gives (admit (sheetA 40 60)) (success 3 17) (16 ∷ 33 ∷ 16 ∷ 9 ∷ [])
-    ∷ gives (admit (sheetA 40 38)) (success 3 17) (16 ∷ 33 ∷ 16 ∷ 9 ∷ [])
-    ∷ gives (admit (sheetA 40 37)) (refuse 7 1 2) (9 ∷ 9 ∷ 9 ∷ 9 ∷ [])
-    ∷ gives (admit (sheetA 34 60)) (success 3 17) (16 ∷ 33 ∷ 16 ∷ 9 ∷ [])
-    ∷ gives (admit (sheetA 33 60)) (success 3 17) (16 ∷ 50 ∷ 16 ∷ 9 ∷ [])
+    gives (admit (sheetA 40 40 60)) (success 3 17) (16 ∷ 33 ∷ 16 ∷ 9 ∷ [])
+    ∷ gives (admit (sheetA 40 40 38)) (success 3 17) (33 ∷ 16 ∷ 16 ∷ 9 ∷ [])
+    ∷ gives (admit (sheetA 40 40 37)) (success 3 17) (33 ∷ 16 ∷ 16 ∷ 9 ∷ [])
+    ∷ gives (admit (sheetA 34 34 60)) (success 3 17) (16 ∷ 33 ∷ 16 ∷ 9 ∷ [])
+    ∷ gives (admit (sheetA 33 33 60)) (success 3 17) (16 ∷ 50 ∷ 16 ∷ 9 ∷ [])
     ∷ gives (admit sheetA6) (success 4 17) (16 ∷ 33 ∷ 16 ∷ 21 ∷ 9 ∷ [])
     ∷ gives (admit (sheetP7 10)) (success 2 6) (5 ∷ 17 ∷ 9 ∷ [])
     ∷ gives (admit (sheetP7 9)) (refuse 7 1 1) (9 ∷ 9 ∷ 9 ∷ [])
-    ∷ gives (replay (sheetA 40 60) logP9 40) (success 25 40) (0 ∷ 12 ∷ 6 ∷ 9 ∷ [])
-    ∷ gives (replay (sheetA 40 60) logP9 12) (success 2 12) (0 ∷ notBegun ∷ 6 ∷ 9 ∷ [])
-    ∷ gives (replay (sheetA 40 60) logP11 18) (success 3 23) (0 ∷ 6 ∷ 11 ∷ 17 ∷ 9 ∷ [])
-    ∷ gives (replay (sheetA 40 60) logP9 0) (success 0 0) (notBegun ∷ notBegun ∷ notBegun ∷ 9 ∷ [])
+    ∷ gives (replay (sheetA 40 40 60) logP9 40) (success 25 40) (0 ∷ 12 ∷ 6 ∷ 9 ∷ [])
+    ∷ gives (replay (sheetA 40 40 60) logP9 12) (success 2 12) (0 ∷ notBegun ∷ 6 ∷ 9 ∷ [])
+    ∷ gives (replay (sheetA 40 40 60) logP11 18) (success 3 23) (0 ∷ 6 ∷ 11 ∷ 17 ∷ 9 ∷ [])
+    ∷ gives (replay (sheetA 40 40 60) logP9 0) (success 0 0) (notBegun ∷ notBegun ∷ notBegun ∷ 9 ∷ [])
     ∷ []
 
 -- The claim: the definitions give every case's outcome, all numbers and all words.
 abbrev pub AllHold : Type 0
 AllHold = map (λ c. outcomeOf (c .question)) cases ≡ map (λ c. c .outcome) cases
 
--- One node with three streams of equal periods, the second with the shortest deadline: rank goes by the number.
+-- One node with three streams of equal periods, the second with the shortest deadline: it is ranked first, and of the other two the
+-- one with the lower number.
 unfoldable pub sheetEqual : List ℕ
 sheetEqual = 1 ∷ 5 ∷ 1 ∷ 6 ∷ 3 ∷ 2 ∷ 100 ∷ 100 ∷ 100 ∷ 50 ∷ 100 ∷ 100 ∷ []
+
+-- Both streams of node 1 release at tick 0, when its first turn starts: the one ranked above begins at once.
+unfoldable pub logBoth : List ℕ
+logBoth = 0 ∷ 1 ∷ 0 ∷ 2 ∷ []
+
+-- The record of the first turn.
+unfoldable pub firstTurn : Bus
+firstTurn = record { tick = 0; node = 1; turns = 0 }
 
 -- A record and a buffer as nobody has made them by steps: of the log of P11, the second of node 2's two releases has begun and the
 -- first has not; the last word is no release's.
@@ -77,19 +86,27 @@ madeUpBus = record { tick = 7; node = 2; turns = 5 }
 unfoldable pub madeUpRoom : List ℕ
 madeUpRoom = 3 ∷ notBegun ∷ 4 ∷ notBegun ∷ notBegun ∷ []
 
--- Cases beside P1 to P12: one stream with its wait and J, equal periods, the order of refusals, and one step over a made-up buffer.
+-- Cases beside P1 to P12: one stream with its wait and J; rank by deadline, then by period (61 is the longer one), then by number, in waits,
+-- replay and step; the order of refusals; and one step over a made-up buffer.
 pub record Further : Type 0 where
-  pub secondStream : oneStreamAnswer (sheetA 40 60) 1 2 ≡ success 33 2
-  pub threeCycles : oneStreamAnswer (sheetA 33 60) 1 2 ≡ success 50 3
-  pub otherNode : oneStreamAnswer (sheetA 40 60) 2 1 ≡ success 16 1
-  pub lateStream : oneStreamAnswer (sheetA 40 37) 1 2 ≡ refuse 7 1 2
-  pub unknownStream : oneStreamAnswer (sheetA 40 37) 2 2 ≡ refuse 8 2 2
-  pub equalPeriods : admitBuffer sheetEqual (lent 3) ≡ 10 ∷ 15 ∷ 21 ∷ 9 ∷ []
-  pub roomBeforeLate : admitAnswer (sheetA 40 37) 2 ≡ refuse 6 0 0
-  pub sheetBeforeRoom : admitAnswer (sheetA 0 60) 0 ≡ refuse 5 1 1
-  pub logBeforeHorizon : replayAnswer (sheetA 40 60) (0 ∷ 4 ∷ []) 1_000_000_001 0 ≡ refuse 9 0 1
-  pub horizonBeforeRoom : replayAnswer (sheetA 40 60) (0 ∷ 1 ∷ []) 1_000_000_001 0 ≡ refuse 10 0 0
-  pub stepNumbers : stepAnswer (sheetA 40 60) logP11 madeUpBus madeUpRoom ≡ success 1 13
-  pub stepRecord : stepBus (sheetA 40 60) logP11 madeUpBus madeUpRoom ≡ record { tick = 13; node = 1; turns = 6 }
-  pub stepWords : stepBuffer (sheetA 40 60) logP11 madeUpBus madeUpRoom ≡ 3 ∷ 7 ∷ 4 ∷ notBegun ∷ notBegun ∷ []
-  pub stepRefused : stepAnswer (sheetA 40 60) logP11 (record { tick = 7; node = 3; turns = 5 }) madeUpRoom ≡ refuse 16 0 0
+  pub secondStream : oneStreamAnswer (sheetA 40 40 60) 1 2 ≡ success 33 2
+  pub threeCycles : oneStreamAnswer (sheetA 33 33 60) 1 2 ≡ success 50 3
+  pub otherNode : oneStreamAnswer (sheetA 40 40 60) 2 1 ≡ success 16 1
+  pub lateStream : oneStreamAnswer (sheetA 40 37 37) 1 2 ≡ refuse 7 1 2
+  pub unknownStream : oneStreamAnswer (sheetA 40 37 37) 2 2 ≡ refuse 8 2 2
+  pub lateUnwritten : admitBuffer (sheetA 40 37 37) (lent 3) ≡ 9 ∷ 9 ∷ 9 ∷ 9 ∷ []
+  pub equalPeriods : admitBuffer sheetEqual (lent 3) ≡ 15 ∷ 10 ∷ 21 ∷ 9 ∷ []
+  pub equalDeadlines : admitBuffer (sheetA 61 38 38) (lent 3) ≡ 33 ∷ 16 ∷ 16 ∷ 9 ∷ []
+  pub bothEqual : admitBuffer (sheetA 60 38 38) (lent 3) ≡ 16 ∷ 33 ∷ 16 ∷ 9 ∷ []
+  pub replayByDeadline : replayBuffer (sheetA 40 40 38) logBoth 8 (lent 2) ≡ 7 ∷ 0 ∷ 9 ∷ []
+  pub replayByPeriod : replayBuffer (sheetA 61 38 38) logBoth 8 (lent 2) ≡ 7 ∷ 0 ∷ 9 ∷ []
+  pub replayByNumber : replayBuffer (sheetA 60 38 38) logBoth 8 (lent 2) ≡ 0 ∷ 7 ∷ 9 ∷ []
+  pub stepByDeadline : stepBuffer (sheetA 40 40 38) logBoth firstTurn (replicate 2 notBegun) ≡ notBegun ∷ 0 ∷ []
+  pub roomBeforeLate : admitAnswer (sheetA 40 37 37) 2 ≡ refuse 6 0 0
+  pub sheetBeforeRoom : admitAnswer (sheetA 0 0 60) 0 ≡ refuse 5 1 1
+  pub logBeforeHorizon : replayAnswer (sheetA 40 40 60) (0 ∷ 4 ∷ []) 1_000_000_001 0 ≡ refuse 9 0 1
+  pub horizonBeforeRoom : replayAnswer (sheetA 40 40 60) (0 ∷ 1 ∷ []) 1_000_000_001 0 ≡ refuse 10 0 0
+  pub stepNumbers : stepAnswer (sheetA 40 40 60) logP11 madeUpBus madeUpRoom ≡ success 1 13
+  pub stepRecord : stepBus (sheetA 40 40 60) logP11 madeUpBus madeUpRoom ≡ record { tick = 13; node = 1; turns = 6 }
+  pub stepWords : stepBuffer (sheetA 40 40 60) logP11 madeUpBus madeUpRoom ≡ 3 ∷ 7 ∷ 4 ∷ notBegun ∷ notBegun ∷ []
+  pub stepRefused : stepAnswer (sheetA 40 40 60) logP11 (record { tick = 7; node = 3; turns = 5 }) madeUpRoom ≡ refuse 16 0 0

@@ -11,3 +11,4 @@ pub mod WithinWait
 pub mod Demand3
 pub mod ReplayDemand
 pub mod Applied
+pub mod Urgent

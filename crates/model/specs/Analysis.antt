@@ -29,9 +29,12 @@ streamsFrom s k j (suc count) = streamOf s k j ∷ streamsFrom s k (suc j) count
 abbrev pub streamsOf : List ℕ → ℕ → List Stream
 streamsOf s k = streamsFrom s k 1 (streamCount s k)
 
--- Priority, "rank": "shorter period first; equal periods, lower stream number first". True where x is ranked above y.
+-- Priority, "rank": "shorter deadline first, then shorter period, then lower stream number". True where x is ranked above y.
 unfoldable pub outranks : Stream → Stream → Bool
-outranks x y = ltb (x .period) (y .period) || eqb (x .period) (y .period) && ltb (x .number) (y .number)
+outranks x y =
+    ltb (x .deadline) (y .deadline)
+    || eqb (x .deadline) (y .deadline)
+    && (ltb (x .period) (y .period) || eqb (x .period) (y .period) && ltb (x .number) (y .number))
 
 -- Those of a list that are "ranked above" a stream.
 unfoldable pub above : Stream → List Stream → List Stream

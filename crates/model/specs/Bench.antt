@@ -3,9 +3,9 @@ use Prim.Native.Nat.{ℕ}
 use mathlib.Core.List.{List, [], _∷_}
 
 -- "Sheet A", with the period and deadline of node 1's first stream and the deadline of its second as they vary.
-unfoldable pub sheetA : ℕ → ℕ → List ℕ
-sheetA first second =
-    2 ∷ 5 ∷ 1 ∷ 9 ∷ 2 ∷ 1 ∷ 13 ∷ 1 ∷ 2 ∷ first ∷ first ∷ 60 ∷ second ∷ 30 ∷ 30 ∷ []
+unfoldable pub sheetA : ℕ → ℕ → ℕ → List ℕ
+sheetA period first second =
+    2 ∷ 5 ∷ 1 ∷ 9 ∷ 2 ∷ 1 ∷ 13 ∷ 1 ∷ 2 ∷ period ∷ first ∷ 60 ∷ second ∷ 30 ∷ 30 ∷ []
 
 -- Sheet A where "node 2 gets a second stream 50 50".
 unfoldable pub sheetA6 : List ℕ
@@ -22,10 +22,17 @@ logP9 = 0 ∷ 1 ∷ 0 ∷ 2 ∷ 1 ∷ 3 ∷ []
 unfoldable pub logP11 : List ℕ
 logP11 = 0 ∷ 2 ∷ 0 ∷ 3 ∷ 0 ∷ 3 ∷ 1 ∷ 1 ∷ []
 
--- On sheet A: the second stream of node 1 and the only one of node 2 break their periods at tick 0, and the first of node 1 releases
--- just after its turn has started.
-unfoldable pub logCrowded : List ℕ
-logCrowded = 0 ∷ 2 ∷ 0 ∷ 2 ∷ 0 ∷ 3 ∷ 0 ∷ 3 ∷ 1 ∷ 1 ∷ []
+-- On sheet A and those like it: a stream of node 1 and the only one of node 2 break their periods at tick 0, and the other stream of node 1
+-- releases just after its turn has started.
+unfoldable pub crowdedBy : ℕ → ℕ → List ℕ
+crowdedBy often once = 0 ∷ often ∷ 0 ∷ often ∷ 0 ∷ 3 ∷ 0 ∷ 3 ∷ 1 ∷ once ∷ []
+
+-- The second stream of node 1 releases often, or the first.
+abbrev pub logCrowded : List ℕ
+logCrowded = crowdedBy 2 1
+
+abbrev pub logUrgent : List ℕ
+logUrgent = crowdedBy 1 2
 
 -- On sheet A: the first stream of node 1 releases twice, its period apart to the tick, and its second stream once.
 unfoldable pub logPeriodic : List ℕ

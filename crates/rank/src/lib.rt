@@ -7,12 +7,11 @@ use model::Stream;
 pub fn is_above(x: Stream, y: Stream) -> bool
     ensures { λ r. ⌜ r ≡ outranks x y ⌝ }
 {
-    if x.period < y.period {
-        return true;
+    if x.deadline != y.deadline {
+        return x.deadline < y.deadline;
     }
-    if x.period == y.period {
-        x.number < y.number
-    } else {
-        false
+    if x.period != y.period {
+        return x.period < y.period;
     }
+    x.number < y.number
 }

@@ -12,13 +12,13 @@ largest : decimal notBegun ≡ ascii "4294967295"
 unfolding decimal digits
 largest = refl
 
-p1 : admitText (sheetA 40 60) (16 ∷ 33 ∷ 16 ∷ []) (success 3 17) ≡ ascii "node stream wait\n1 1 16\n1 2 33\n2 1 16\nadmitted 3\n"
+p1 : admitText (sheetA 40 40 60) (16 ∷ 33 ∷ 16 ∷ []) (success 3 17) ≡ ascii "node stream wait\n1 1 16\n1 2 33\n2 1 16\nadmitted 3\n"
 unfolding sheetA decimal digits linesTo sum upTo waitLine nodeLines waitTable admitText
 p1 = refl
 
-p3 : admitText (sheetA 40 60) [] (refuse 7 1 2) ≡ ascii "refused 7 at 1 2\n"
+late : admitText (sheetA 40 40 60) [] (refuse 7 1 2) ≡ ascii "refused 7 at 1 2\n"
 unfolding decimal digits refusalText admitText
-p3 = refl
+late = refl
 
 p9 : replayText (0 ∷ 12 ∷ 6 ∷ []) 3 (success 25 40) ≡ ascii "release begin\n1 0\n2 12\n3 6\nturns 25 next 40\n"
 unfolding decimal digits linesTo beginText beginLine beginTable replayText

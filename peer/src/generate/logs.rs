@@ -60,6 +60,42 @@ fn bursts(random: &mut Random, traffic: &Traffic) -> Vec<Release> {
     releases
 }
 
+/// For each stream, those of its node that it may have to wait with: all, or
+/// those of the same deadline. Groups of one are left out.
+fn groups(bus: &Bus, tied: bool) -> Vec<Vec<u32>> {
+    let streams = bus.streams();
+    let group = |stream: usize| {
+        let node = &bus.nodes()[bus.node_of(stream)];
+        let equal = |other: usize| streams[other].deadline == streams[stream].deadline;
+        let all = node.first..node.first + node.count;
+        let chosen = all.filter(|&other| !tied || equal(other));
+        chosen.map(|other| other as u32 + 1).collect::<Vec<u32>>()
+    };
+    let groups = (0..streams.len()).map(group);
+    groups.filter(|group| group.len() > 1).collect()
+}
+
+/// Streams of one node that wait at the same time, so that the rank decides.
+fn rivals(random: &mut Random, traffic: &Traffic) -> Vec<Release> {
+    let tied = random.percent(50);
+    let groups = traffic.bus.map_or(vec![], |bus| groups(bus, tied));
+    if groups.is_empty() {
+        return bursts(random, traffic);
+    }
+    let (_, cycle) = traffic.pace();
+    let mut releases = Vec::new();
+    for _ in 0..random.between(1, 8) {
+        let group = &groups[random.below(groups.len() as u64) as usize];
+        let tick = traffic.any_tick(random) / random.pick(&[1, 1, 2, 1_000]);
+        for _ in 0..random.between(2, 2 * group.len() as u64) {
+            let later = random.below(cycle) as u32;
+            let later = random.pick(&[0, 0, 0, later]);
+            releases.push(((tick + later).min(LAST_TICK), random.pick(group)));
+        }
+    }
+    releases
+}
+
 /// Close together from the start, so that many come while a turn goes on.
 fn during_turns(random: &mut Random, traffic: &Traffic) -> Vec<Release> {
     let (message, cycle) = traffic.pace();
@@ -126,7 +162,7 @@ fn releases(random: &mut Random, traffic: &Traffic) -> Vec<Release> {
         true => 3_000,
         false => 40,
     };
-    match random.weighted(&[60, 180, 180, 200, 200, 160, 8, 8, 4, end]) {
+    match random.weighted(&[60, 150, 150, 170, 170, 140, 8, 8, 4, end, 180]) {
         0 => Vec::new(),
         1 => {
             let count = random.between(1, 40);
@@ -139,6 +175,7 @@ fn releases(random: &mut Random, traffic: &Traffic) -> Vec<Release> {
         6 => scattered(random, traffic, most),
         7 => scattered(random, traffic, most + 1),
         9 => before_the_end(random, traffic),
+        10 => rivals(random, traffic),
         _ => vec![(LAST_TICK, traffic.any_stream(random)); 3],
     }
 }

@@ -1,6 +1,7 @@
 //! Cases for comparing two programs: generated ones, each of which can be run
 //! again by its seed and index, and named ones for the far ends.
 
+mod deadlines;
 mod faults;
 mod logs;
 mod named;
@@ -9,12 +10,13 @@ mod sheets;
 
 use crate::sheet::{Bus, LAST_TICK};
 use crate::{Record, NOT_BEGUN};
+use deadlines::limit_tries;
 use faults::{damage_log, damage_sheet};
 use logs::{ordered_log, Traffic};
 use random::Random;
 
+pub(crate) use deadlines::total_tries;
 pub use named::named;
-pub(crate) use sheets::total_tries;
 
 /// A generated replay starts no more turns, and most start far fewer.
 pub const MOST_TURNS: u64 = 4_000_000;
@@ -50,7 +52,7 @@ pub fn case(seed: u64, index: u64) -> Case {
     let random = &mut Random::new(seed, index);
     let (mut sheet, tries) = sheets::valid_sheet(random);
     damage_sheet(random, &mut sheet);
-    sheets::limit_tries(&mut sheet, tries);
+    limit_tries(&mut sheet, tries);
     let bus = Bus::read(&sheet).ok();
     let traffic = traffic(random, bus.as_ref());
     let mut log = ordered_log(random, &traffic);
@@ -117,8 +119,8 @@ fn horizon(random: &mut Random, traffic: &Traffic) -> u32 {
     ticks as u32
 }
 
-/// Mostly a stream that there is, and of two the one with the longer period,
-/// which is more likely to wait for more than one cycle.
+/// Mostly a stream that there is, and of two the one of lower priority, which
+/// is more likely to wait for more than one cycle.
 fn question(random: &mut Random, bus: Option<&Bus>) -> (u32, u32) {
     let odd = [0, 1, 2, 16, 17, 18, 4_096, u32::MAX - 1, u32::MAX];
     let streams = bus.map_or(&[][..], |bus| bus.streams());
@@ -126,8 +128,8 @@ fn question(random: &mut Random, bus: Option<&Bus>) -> (u32, u32) {
         return (random.pick(&odd), random.pick(&odd));
     };
     let one = random.below(streams.len() as u64) as usize;
-    let first = bus.nodes()[streams[one].node].first as u64;
-    let count = bus.nodes()[streams[one].node].count as u64;
+    let node = &bus.nodes()[bus.node_of(one)];
+    let (first, count) = (node.first as u64, node.count as u64);
     let other = (first + random.below(count)) as usize;
     let (node, stream) = bus.place(std::cmp::max_by_key(one, other, |&s| bus.priority(s)));
     match random.weighted(&[88, 3, 3, 3, 3]) {
@@ -147,11 +149,11 @@ fn record(random: &mut Random, traffic: &Traffic, log: &[u32]) -> Record {
         _ => random.below(traffic.span + 1) as u32,
     };
     let sender = log.get(2 * release + 1).and_then(|&stream| {
-        let streams = traffic.bus?.streams();
-        streams.get((stream as usize).checked_sub(1)?)
+        let (bus, index) = (traffic.bus?, (stream as usize).checked_sub(1)?);
+        (index < bus.streams().len()).then(|| bus.node_of(index))
     });
     let node = match sender {
-        Some(stream) if random.percent(75) => stream.node as u32 + 1,
+        Some(node) if random.percent(75) => node as u32 + 1,
         _ => random.between(1, u64::from(nodes)) as u32,
     };
     let mut record = Record {
@@ -205,7 +207,9 @@ fn step_room(random: &mut Random, releases: usize) -> Vec<u32> {
         3 => random.below(releases as u64 + 1) as usize,
         _ => 0,
     };
-    let word = |random: &mut Random| match random.percent(50) {
+    // Some rooms leave nearly all waiting, so that many compete for the turn.
+    let waiting = random.pick(&[50, 50, 95]);
+    let word = |random: &mut Random| match random.percent(waiting) {
         true => NOT_BEGUN,
         false => any_word(random),
     };

@@ -253,7 +253,7 @@ fn refused() -> Vec<Named> {
         ),
         (
             "both late, the first of lower priority",
-            plain(vec![1, 5, 1, 6, 2, 1, 100, 6, 9, 9], vec![0, 1, 0, 2], 50),
+            plain(vec![1, 5, 1, 6, 2, 1, 100, 10, 9, 9], vec![0, 1, 0, 2], 50),
         ),
     ]
 }
@@ -272,6 +272,34 @@ fn out_of_range() -> Vec<Named> {
     ]
 }
 
+/// Two streams ordered by one level of the rank, and full nodes with all
+/// levels at the ends of the ranges.
+fn ranks() -> Vec<Named> {
+    let pair = |first: (u32, u32), second: (u32, u32)| {
+        let sheet = one_node(5, 1, 1, &[first, second]);
+        plain(sheet, vec![0, 1, 0, 2, 1, 1, 1, 2], 40)
+    };
+    let full = |streams: [(u32, u32); 3]| {
+        let streams: Vec<_> = streams.into_iter().cycle().take(16).collect();
+        let log = releases(16, |release| [0, 16 - release]);
+        plain(one_node(7, 1, 5, &streams), log, 1_000)
+    };
+    let (far, near) = (LAST_TICK, LAST_TICK - 1);
+    vec![
+        ("the shorter deadline first", pair((40, 40), (60, 37))),
+        ("the shorter period first", pair((60, 40), (50, 40))),
+        ("the lower number first", pair((50, 40), (50, 40))),
+        (
+            "all levels of the rank at the far end",
+            full([(far, far), (far, near), (near, near)]),
+        ),
+        (
+            "all levels of the rank at both ends",
+            full([(far, 2), (far, 1), (1, 1)]),
+        ),
+    ]
+}
+
 pub fn named() -> Vec<Named> {
     [
         many_turns(),
@@ -283,6 +311,7 @@ pub fn named() -> Vec<Named> {
         large_logs(),
         refused(),
         out_of_range(),
+        ranks(),
     ]
     .concat()
 }

@@ -1,9 +1,9 @@
 //! Valid sheets of many kinds.
 
+use super::deadlines::{meet_deadlines, sharpen_deadline};
 use super::random::Random;
 use super::MOST_TRIES;
-use crate::admission::{last_try, least_cycles};
-use crate::sheet::{Bus, LAST_TICK};
+use crate::sheet::LAST_TICK;
 
 pub(super) struct NodePlan {
     pub budget: u32,
@@ -39,7 +39,7 @@ impl Plan {
 }
 
 /// The nearest period or deadline in range.
-fn bounded(ticks: u64) -> u32 {
+pub(super) fn bounded(ticks: u64) -> u32 {
     ticks.clamp(1, u64::from(LAST_TICK)) as u32
 }
 
@@ -115,9 +115,11 @@ fn fill_roomy(plan: &mut Plan, random: &mut Random) {
             *stream = (period, bounded(deadline));
         }
     }
+    meet_deadlines(random, plan, 25);
 }
 
-/// The same few periods again and again, so that the stream number decides.
+/// The same few deadlines and periods again and again: the period decides
+/// between equal deadlines, and the stream number where both are equal.
 fn fill_tied(plan: &mut Plan, random: &mut Random) {
     let cycle = plan.cycle();
     let nodes = plan.nodes.iter();
@@ -127,10 +129,21 @@ fn fill_tied(plan: &mut Plan, random: &mut Random) {
         .unwrap_or(1);
     let first = roomy + random.below(roomy * 3);
     let periods = [first, first, first + random.below(2), roomy];
+    let middle = random.between(roomy, first);
+    let deadlines = [roomy, middle, middle, first];
     for stream in plan.nodes.iter_mut().flat_map(|node| &mut node.streams) {
         let period = bounded(random.pick(&periods));
-        let lowest = roomy.min(u64::from(period));
-        *stream = (period, random.between(lowest, u64::from(period)) as u32);
+        let deadline = bounded(random.pick(&deadlines));
+        *stream = (period, deadline.min(period));
+    }
+}
+
+/// A deadline of the whole period or somewhat less.
+fn shorter(random: &mut Random, period: u32) -> u32 {
+    let whole = u64::from(period);
+    match random.percent(50) {
+        true => period,
+        false => random.between(whole.div_ceil(2), whole) as u32,
     }
 }
 
@@ -146,11 +159,13 @@ fn fill_tight(plan: &mut Plan, random: &mut Random) {
             let period = bounded(cycle + fair * slack / 100 + random.below(cycle));
             *stream = (period, period);
         }
-        if let Some(last) = node.streams.last_mut() {
+        let lowest = random.below(node.streams.len() as u64) as usize;
+        if let Some(stream) = node.streams.get_mut(lowest) {
             let period = bounded(fair * random.between(2, 40) + cycle * 4);
-            *last = (period, period);
+            *stream = (period, shorter(random, period));
         }
     }
+    meet_deadlines(random, plan, 35);
 }
 
 /// Periods next to whole numbers of cycles or parts of them, where a release
@@ -164,15 +179,39 @@ fn fill_edges(plan: &mut Plan, random: &mut Random) {
             *stream = (period, period);
         }
         let count = node.streams.len() as u64;
-        if let Some(last) = node.streams.last_mut() {
+        let lowest = random.below(count) as usize;
+        if let Some(stream) = node.streams.get_mut(lowest) {
             let period = bounded(cycle * (4 * count + random.below(40)));
-            *last = (period, period);
+            *stream = (period, shorter(random, period));
         }
     }
+    meet_deadlines(random, plan, 35);
 }
 
-/// A higher stream a little slower than one budget a cycle: the stream below
-/// it has to wait for about cycle / gap cycles.
+/// For a node of budget 1: a stream that leaves a turn free only once in about
+/// cycle / gap cycles, since its period is a cycle and `gap`, and `lower` ones
+/// that have to wait for such a turn each. All are in time, the first because
+/// the gap is as long as a message or longer.
+fn rare_gaps(random: &mut Random, plan: &Plan, gap: u64, lower: u64) -> Vec<(u32, u32)> {
+    let cycle = plan.cycle();
+    let (soonest, period) = (cycle - 1 + u64::from(plan.message), cycle + gap);
+    let deadline = random.between(soonest, period);
+    let deadline = random.pick(&[deadline, period]);
+    let mut streams = vec![(bounded(period), bounded(deadline))];
+    let longest = cycle * (lower * cycle / gap + 4);
+    let usual = random.between(longest, 3 * longest);
+    for _ in 0..lower {
+        let other = random.between(longest, 3 * longest);
+        let deadline = random.pick(&[usual, other]);
+        let period = random.between(deadline, 3 * longest);
+        let period = random.pick(&[deadline, period]);
+        streams.push((bounded(period), bounded(deadline)));
+    }
+    streams.rotate_left(random.below(lower + 1) as usize);
+    streams
+}
+
+/// Streams that wait for many cycles, up to some thousand.
 fn fill_long_search(plan: &mut Plan, random: &mut Random) {
     plan.nodes.truncate(2);
     fill_roomy(plan, random);
@@ -180,16 +219,11 @@ fn fill_long_search(plan: &mut Plan, random: &mut Random) {
     plan.nodes[node].budget = 1;
     plan.message = plan.message.min(3);
     plan.slot = random.between(1, 3_000) as u32;
-    let cycle = plan.cycle();
     let least = u64::from(plan.message);
-    let widest = least.max(cycle / random.pick(&[4, 20, 200]));
+    let widest = least.max(plan.cycle() / random.pick(&[4, 20, 200]));
     let gap = random.between(least, widest);
-    let above = bounded(cycle + gap);
-    let below = bounded(cycle * (cycle / gap + 4) * random.between(1, 3));
-    plan.nodes[node].streams = vec![(above, above), (below, below)];
-    if random.percent(50) {
-        plan.nodes[node].streams.swap(0, 1);
-    }
+    let lower = random.between(1, 2);
+    plan.nodes[node].streams = rare_gaps(random, plan, gap, lower);
 }
 
 /// A stream that waits for about 10^8 to 10^9 ticks and is in time. As in a
@@ -214,12 +248,11 @@ fn fill_long_wait(plan: &mut Plan, random: &mut Random) {
     plan.nodes[node].budget = 1;
     fill_roomy(plan, random);
     let cycle = plan.cycle();
-    let wait = random.between(120_000_000, 900_000_000);
+    let lower = random.pick(&[1, 1, 2]);
+    let wait = random.between(120_000_000, 900_000_000) / lower;
     // A gap of a message keeps the stream above in time itself.
     let gap = u64::from(plan.message).max(cycle * cycle / wait);
-    let above = bounded(cycle + gap);
-    let below = bounded(wait + random.between(100_000_000, 900_000_000));
-    plan.nodes[node].streams = vec![(above, above), (below, below)];
+    plan.nodes[node].streams = rare_gaps(random, plan, gap, lower);
 }
 
 /// Long messages and slots: the last tick is not many turns away.
@@ -245,6 +278,7 @@ fn fill_extreme(plan: &mut Plan, random: &mut Random) {
         let period = extreme_ticks(random, LAST_TICK);
         *stream = (period, extreme_ticks(random, period));
     }
+    meet_deadlines(random, plan, 25);
 }
 
 /// So many releases above one stream that their sum passes 32 bits while its
@@ -256,28 +290,14 @@ fn fill_overload(plan: &mut Plan, random: &mut Random) {
     let least = cycle.saturating_sub(10_000).div_ceil(16).max(1);
     plan.message = random.between(least, (cycle - 1) / 16) as u32;
     plan.slot = (cycle - 16 * u64::from(plan.message)).min(10_000) as u32;
-    let period = bounded(u64::from(LAST_TICK) - random.below(1_000));
+    let period = LAST_TICK - random.below(1_000) as u32;
+    // Longer than the cycles at which the sum is past 32 bits.
+    let other = random.between(300_000_000, u64::from(period)) as u32;
+    let deadline = random.pick(&[period, other]);
     let mut streams = vec![(1, 1); 15];
-    streams.insert(random.pick(&[0, 15]), (period, period));
+    streams.insert(random.pick(&[0, 15]), (period, deadline));
     let budget = 16;
     plan.nodes = vec![NodePlan { budget, streams }];
-}
-
-/// Brings one deadline to the edge: its listed wait just in time or not.
-fn sharpen_deadline(sheet: &mut [u32], random: &mut Random) {
-    let Ok(bus) = Bus::read(sheet) else { return };
-    if bus.streams().is_empty() {
-        return;
-    }
-    let stream = random.below(bus.streams().len() as u64) as usize;
-    let Some(found) = least_cycles(&bus, stream, 2_000) else {
-        return;
-    };
-    let edge = (found.wait + bus.message_ticks + 1).saturating_sub(random.below(3));
-    if edge >= 1 && edge <= u64::from(bus.streams()[stream].period) {
-        let bodies = sheet.len() - 2 * bus.streams().len();
-        sheet[bodies + 2 * stream + 1] = edge as u32;
-    }
 }
 
 /// A valid sheet and how many tries of J are fair for it.
@@ -310,31 +330,4 @@ pub(super) fn valid_sheet(random: &mut Random) -> (Vec<u32>, u64) {
         sharpen_deadline(&mut sheet, random);
     }
     (sheet, tries)
-}
-
-/// How many J all streams of a sheet together try, up to about `most`.
-pub(crate) fn total_tries(bus: &Bus, most: u64) -> u64 {
-    let mut total = 0;
-    for stream in 0..bus.streams().len() {
-        let last = last_try(bus, stream).min(most.saturating_add(1));
-        total += least_cycles(bus, stream, last).map_or(last, |found| found.cycles);
-        if total > most {
-            break;
-        }
-    }
-    total
-}
-
-/// Shortens the deadlines of a valid sheet that would take too many tries.
-pub(super) fn limit_tries(sheet: &mut [u32], most: u64) {
-    let Ok(bus) = Bus::read(sheet) else { return };
-    if total_tries(&bus, most) <= most {
-        return;
-    }
-    let streams = bus.streams().len();
-    let latest = bounded(most / streams as u64 * bus.cycle());
-    let bodies = sheet.len() - 2 * streams;
-    for stream in sheet[bodies..].chunks_exact_mut(2) {
-        stream[1] = stream[1].min(latest);
-    }
 }

@@ -50,6 +50,17 @@ pub fn sheet(message: u32, slot: u32, nodes: &[(u32, &[(u32, u32)])]) -> Vec<u32
     words
 }
 
+/// Period and deadline of each stream of each node of a valid sheet.
+pub fn bodies(sheet: &[u32]) -> Vec<Vec<(u32, u32)>> {
+    let rows = sheet[3..].chunks_exact(3).take(sheet[0] as usize);
+    rows.map(|row| {
+        let body = sheet[row[0] as usize..].chunks_exact(2);
+        let pairs = body.take(row[1] as usize);
+        pairs.map(|pair| (pair[0], pair[1])).collect()
+    })
+    .collect()
+}
+
 /// Admits into a room with two words to spare; those two must stay.
 pub fn admitted(sheet: &[u32], streams: usize) -> (Answer, Vec<u32>) {
     let mut room = vec![OLD; streams + 2];

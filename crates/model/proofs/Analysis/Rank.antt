@@ -1,56 +1,58 @@
--- Priority, "rank", is a strict total order on the streams of a node: it is lexicographic, by period and then by number.
+-- Priority, "rank", is a strict total order on the streams of a node: it is lexicographic, by deadline, then by period, then by number.
 -- Assumes nothing.
 use Prim.Native.Nat.{ℕ, _<_}
-use mathlib.Core.Path.{_≡_}
-use mathlib.Core.Logic.{_↔_, _⊎_, ⊎-map}
-use mathlib.Core.Bool.{true}
+use native.Mathlib.Nat.{le-of-eq}
+use mathlib.Core.Path.{_≡_, refl, sym}
+use mathlib.Core.Logic.{_↔_, _⊎_}
+use mathlib.Core.Bool.{true, or-false}
 use mathlib.Core.List.{List}
 use lib.Dec.{ltb}
-use borrow.Author.Tests.{ltb-true, lt-ltb}
+use borrow.Author.Tests.{le-ltb, eq-eqb, ne-eqb}
 use Rattle.model.specs.declared.Stream.{Stream}
+use Rattle.model.specs.Sheet.{period, deadline}
 use Rattle.model.specs.Analysis.{streamOf, outranks}
 use Rattle.theory.proofs.Order.{TotalOn}
-use Rattle.theory.proofs.Lexicographic.{ltb-total, lexicographic-reading, lexicographic-irreflexive, lexicographic-transitive, lexicographic-total}
+use Rattle.theory.proofs.Lexicographic.{ltb-reading, lexicographic-reading, ltb-total, lexicographic-total}
 
--- The key of the order, and the tie number.
-abbrev periodOf : Stream → ℕ
-periodOf x = x .period
-
-abbrev numberOf : Stream → ℕ
-numberOf x = x .number
-
--- A stream outranks another exactly where its period is shorter, or the periods are equal and its number is lower.
+-- A stream outranks another exactly where its deadline is shorter, or the deadlines are equal and its period is shorter, or both are
+-- equal and its number is lower.
 pub outranks-reading : (x y : Stream)
-    → (outranks x y ≡ true) ↔ ((x .period < y .period) ⊎ ((x .period ≡ y .period) × (x .number < y .number)))
+    → (outranks x y ≡ true)
+    ↔ ((x .deadline < y .deadline)
+    ⊎ ((x .deadline ≡ y .deadline)
+    × ((x .period < y .period) ⊎ ((x .period ≡ y .period) × (x .number < y .number)))))
 unfolding outranks
-outranks-reading x y =
-    let test = lexicographic-reading ltb periodOf numberOf x y in (
-      λ e. ⊎-map (ltb-true (x .period) (y .period)) (λ h. h) (test .0 e),
-      λ f. test .1 (⊎-map (lt-ltb (x .period) (y .period)) (λ h. h) f),
-    )
+outranks-reading =
+    lexicographic-reading (λ (x : Stream). x .deadline) ltb-reading
+    (lexicographic-reading (λ (x : Stream). x .period) ltb-reading (λ x y. ltb-reading (x .number) (y .number)))
 
--- No stream outranks itself.
-pub outranks-irreflexive : (x : Stream) → outranks x x ≡ true → ⊥
+-- So different deadlines decide;
+pub by-deadline : (x y : Stream) → (x .deadline ≡ y .deadline → ⊥) → outranks x y ≡ ltb (x .deadline) (y .deadline)
 unfolding outranks
-outranks-irreflexive = lexicographic-irreflexive ltb-total periodOf numberOf
+by-deadline x y differ = rw (ne-eqb _ _ differ) (or-false _)
 
--- A stream outranks those that are outranked by one that it outranks.
-pub outranks-transitive : (x y z : Stream) → outranks x y ≡ true → outranks y z ≡ true → outranks x z ≡ true
+-- where they are equal, different periods;
+pub by-period : (x y : Stream)
+    → x .deadline ≡ y .deadline
+    → (x .period ≡ y .period → ⊥)
+    → outranks x y ≡ ltb (x .period) (y .period)
 unfolding outranks
-outranks-transitive = lexicographic-transitive ltb-total periodOf numberOf
+by-period x y same differ = rw (le-ltb _ _ (le-of-eq (sym same)), eq-eqb _ _ same, ne-eqb _ _ differ) (or-false _)
 
--- Of two streams with different numbers one outranks the other.
-pub outranks-total : (x y : Stream)
-    → (x .number ≡ y .number → ⊥)
-    → (outranks x y ≡ true) ⊎ (outranks y x ≡ true)
+-- and where both are equal, the numbers.
+pub by-number : (x y : Stream)
+    → x .deadline ≡ y .deadline
+    → x .period ≡ y .period
+    → outranks x y ≡ ltb (x .number) (y .number)
 unfolding outranks
-outranks-total x y = lexicographic-total ltb-total periodOf numberOf x y tt tt
+by-number x y same equal =
+    rw (le-ltb _ _ (le-of-eq (sym same)), eq-eqb _ _ same, le-ltb _ _ (le-of-eq (sym equal)), eq-eqb _ _ equal) refl
 
 -- Priority is a strict total order on the streams of a node, by their numbers.
 pub rank-total : (s : List ℕ) (k : ℕ) → TotalOn (λ j. Unit) (λ i j. outranks (streamOf s k i) (streamOf s k j))
+unfolding outranks
 rank-total s k =
-    record {
-      irreflexive = λ j. outranks-irreflexive (streamOf s k j);
-      transitive = λ h i j. outranks-transitive (streamOf s k h) (streamOf s k i) (streamOf s k j);
-      total = λ i j _ _ differ. outranks-total (streamOf s k i) (streamOf s k j) differ;
-    }
+    let numbers = ltb-total (λ j. Unit) in
+    lexicographic-total numbers (deadline s k)
+    (lexicographic-total numbers (period s k) numbers (λ j _. tt))
+    (λ j _. tt)

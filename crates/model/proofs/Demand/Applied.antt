@@ -2,9 +2,9 @@
 -- a replay wrote nothing is known here but what demand 3 says. Assumes nothing.
 use Prim.Native.Nat.{ℕ, zero, suc, _+_, _-_, _*_, _≤_, _<_}
 use native.Mathlib.Omega.{arith}
-use mathlib.Core.Path.{_≡_, refl, ap, _∙_}
+use mathlib.Core.Path.{_≡_, refl, sym, ap, _∙_}
 use mathlib.Core.Logic.{inl, inr}
-use mathlib.Core.Bool.{true, false≢true}
+use mathlib.Core.Bool.{true, false, true≢false, false≢true}
 use mathlib.Core.List.{List, [], _∷_}
 use Rattle.theory.specs.Sum.{sum, upTo}
 use Rattle.theory.specs.Queue.{firstIn, first, firstOnes}
@@ -16,7 +16,7 @@ use Rattle.model.specs.Analysis.{streamOf, streamsFrom, outranks, above,
 use Rattle.model.specs.Protocol.{KeepsPeriod, ofNode, queuedBefore, waiting, beginsFrom, serve, nextNode, nextBus, turn, start, stateAt, startOf, nodeOf, TurnsBefore, run, replayed}
 use Rattle.model.specs.Answers.{roomRefusal, tickBefore, releaseRefusal, logRefusal, horizonRefusal, unknownRefusal, verdictAnswer, lateRefusal, nodeLateRefusal, waitWord, waitsFrom, nodeWaitsFrom, bufferAfter, oneStreamAnswer, admitAnswer, admitBuffer, replayAnswer, stepped}
 use Rattle.model.specs.Demand.{StreamWait, StreamLate, AllJudged, messagesOf, BeginsWithin, NextTurn, PeriodsKept, DueBefore, WholeReplay}
-use Rattle.model.specs.Bench.{sheetA, logCrowded, logPeriodic}
+use Rattle.model.specs.Bench.{sheetA, crowdedBy, logCrowded, logPeriodic}
 use Rattle.model.proofs.Protocol.Run.{turns-unique}
 use Rattle.model.proofs.Answers.Stepping.{inFront, stepping}
 use Rattle.model.proofs.Demand.Demand2.{demand2}
@@ -24,21 +24,28 @@ use Rattle.model.proofs.Demand.Demand3.{demand3}
 
 -- "Sheet A".
 abbrev A : List ℕ
-A = sheetA 40 60
+A = sheetA 40 40 60
 
--- A stream of node 1 of sheet A.
-on-node-1 : (j : ℕ) → 1 ≤ j → j ≤ 2 → OnSheet A 1 j
+-- A stream of node 1 of sheet A, or of one like it.
+pub on-node-1 : (p first second j : ℕ) → 1 ≤ j → j ≤ 2 → OnSheet (sheetA p first second) 1 j
 unfolding sheetA
-on-node-1 j from upTo = record { nodeFrom = omega arith; nodeTo = omega arith; streamFrom = from; streamTo = upTo }
+on-node-1 p first second j from upTo = record { nodeFrom = omega arith; nodeTo = omega arith; streamFrom = from; streamTo = upTo }
 
--- None of node 1's streams is ranked above the first, and the first alone above the second.
-highest : (i : ℕ) → OnSheet A 1 i → outranks (streamOf A 1 i) (streamOf A 1 1) ≡ true → ⊥
-unfolding sheetA outranks
-highest zero on e = omega (arith, on .streamFrom)
-highest (suc zero) on e = false≢true e
-highest (suc (suc zero)) on e = false≢true e
-highest (suc (suc (suc i))) on e = omega (arith, on .streamTo)
+-- None of node 1's streams is ranked above one that neither of the two is ranked above.
+pub highest : (p first second j : ℕ)
+    → outranks (streamOf (sheetA p first second) 1 1) (streamOf (sheetA p first second) 1 j) ≡ false
+    → outranks (streamOf (sheetA p first second) 1 2) (streamOf (sheetA p first second) 1 j) ≡ false
+    → (i : ℕ)
+    → OnSheet (sheetA p first second) 1 i
+    → outranks (streamOf (sheetA p first second) 1 i) (streamOf (sheetA p first second) 1 j) ≡ true
+    → ⊥
+unfolding sheetA
+highest p first second j one two zero on e = omega (arith, on .streamFrom)
+highest p first second j one two (suc zero) on e = true≢false (sym e ∙ one)
+highest p first second j one two (suc (suc zero)) on e = true≢false (sym e ∙ two)
+highest p first second j one two (suc (suc (suc i))) on e = omega (arith, on .streamTo)
 
+-- On sheet A the first is ranked above the second, and no other.
 only-first : (i : ℕ) → OnSheet A 1 i → outranks (streamOf A 1 i) (streamOf A 1 2) ≡ true → i ≡ 1
 unfolding sheetA outranks
 only-first zero on e = absurd (omega (arith, on .streamFrom))
@@ -46,18 +53,18 @@ only-first (suc zero) on e = refl
 only-first (suc (suc zero)) on e = absurd (false≢true e)
 only-first (suc (suc (suc i))) on e = absurd (omega (arith, on .streamTo))
 
--- The crowded log: in it stream 1 releases once, so that it keeps its period whatever the others do.
-once : KeepsPeriod A logCrowded 1 1
-unfolding sheetA logCrowded sum upTo
-once zero b s = absurd (omega (arith, s .first))
-once (suc zero) b s = absurd (omega (arith, s .first))
-once (suc (suc zero)) b s = absurd (omega (arith, s .first))
-once (suc (suc (suc zero))) b s = absurd (omega (arith, s .first))
-once (suc (suc (suc (suc a)))) b s = absurd (omega (arith, s .ordered, s .inLog))
+-- In a crowded log one stream of node 1 releases once, so that it keeps its period whatever the others do.
+pub once : (p first second often j : ℕ) → j ≤ 2 → (often ≡ j → ⊥) → KeepsPeriod (sheetA p first second) (crowdedBy often j) 1 j
+unfolding sheetA crowdedBy sum upTo
+once p first second often j low other zero b s = absurd (other (omega (arith, s .first)))
+once p first second often j low other (suc zero) b s = absurd (other (omega (arith, s .first)))
+once p first second often j low other (suc (suc zero)) b s = absurd (omega (arith, s .first))
+once p first second often j low other (suc (suc (suc zero))) b s = absurd (omega (arith, s .first))
+once p first second often j low other (suc (suc (suc (suc a)))) b s = absurd (omega (arith, s .ordered, s .inLog))
 
 -- Between its first two turns node 1 has no other.
 next-turn : NextTurn A logCrowded 0 2
-unfolding sheetA logCrowded sum upTo firstIn first firstOnes outranks ofNode queuedBefore waiting beginsFrom serve nextNode nextBus turn start stateAt
+unfolding sheetA crowdedBy sum upTo firstIn first firstOnes outranks ofNode queuedBefore waiting beginsFrom serve nextNode nextBus turn start stateAt
 next-turn = record { ordered = omega arith; sameNode = refl; noneBetween = none }
   where
     none : (i : ℕ) → 0 < i → i < 2 → nodeOf A logCrowded i ≡ nodeOf A logCrowded 0 → ⊥
@@ -84,13 +91,13 @@ pub record Crowded (words : List ℕ) : Type 0 where
 
 pub crowded : (words : List ℕ) → WholeReplay A logCrowded 18 3 23 words → Crowded words
 unfolding
-    sheetA logCrowded sum upTo cycle firstIn first firstOnes streamsFrom outranks above mostReleases interference waitFor lateAt verdictAt search verdict verdictOf
+    sheetA crowdedBy sum upTo cycle firstIn first firstOnes streamsFrom outranks above mostReleases interference waitFor lateAt verdictAt search verdict verdictOf
     ofNode queuedBefore waiting beginsFrom serve nextNode nextBus turn start stateAt
 crowded words whole =
     let due : DueBefore A logCrowded 18 1 1 16 4 = record { inLog = omega arith; ofStream = refl; inTime = omega arith } in
-    let kept : PeriodsKept A logCrowded 1 1 = record { itself = once; rankedAbove = λ i on e. absurd (highest i on e) } in
+    let kept : PeriodsKept A logCrowded 1 1 = record { itself = once 40 40 60 2 1 (omega arith) (λ e. omega arith); rankedAbove = λ i on e. absurd (highest 40 40 60 1 refl refl i on e) } in
     let m : BeginsWithin logCrowded words 16 4 =
-    whole .withinWait 1 1 16 1 (on-node-1 1 (omega arith) (omega arith)) refl kept 4 due
+    whole .withinWait 1 1 16 1 (on-node-1 40 40 60 1 (omega arith) (omega arith)) refl kept 4 due
     in
     record {
       words0 = whole .everyRelease 0 (omega arith);
@@ -107,7 +114,7 @@ crowded words whole =
 
 -- Demand 3 counts the turns and names the next tick: of the crowded log up to 18 there are three, and the next would start at 23.
 crowded-three : TurnsBefore A logCrowded 18 3
-unfolding sheetA logCrowded sum upTo firstIn first firstOnes outranks ofNode queuedBefore waiting beginsFrom serve nextNode nextBus turn start stateAt
+unfolding sheetA crowdedBy sum upTo firstIn first firstOnes outranks ofNode queuedBefore waiting beginsFrom serve nextNode nextBus turn start stateAt
 crowded-three = record { started = started; ended = omega arith }
   where
     started : (i : ℕ) → i < 3 → startOf A logCrowded i < 18
@@ -117,7 +124,7 @@ crowded-three = record { started = started; ended = omega arith }
     started (suc (suc (suc i))) h = absurd (omega arith)
 
 pub crowded-turns : (turns next : ℕ) (words : List ℕ) → WholeReplay A logCrowded 18 turns next words → (turns ≡ 3) × (next ≡ 23)
-unfolding sheetA logCrowded sum upTo firstIn first firstOnes outranks ofNode queuedBefore waiting beginsFrom serve nextNode nextBus turn start stateAt
+unfolding sheetA crowdedBy sum upTo firstIn first firstOnes outranks ofNode queuedBefore waiting beginsFrom serve nextNode nextBus turn start stateAt
 crowded-turns turns next words whole =
     let three : turns ≡ 3 = turns-unique (whole .turnsCounted) crowded-three in
     (three, whole .nextStart ∙ ap (startOf A logCrowded) three)
@@ -166,13 +173,13 @@ unfolding sheetA logPeriodic sum upTo cycle streamsFrom outranks above mostRelea
 periodic turns next words whole =
     record {
       second =
-          whole .withinWait 1 2 33 2 (on-node-1 2 (omega arith) (omega arith)) refl
+          whole .withinWait 1 2 33 2 (on-node-1 40 40 60 2 (omega arith) (omega arith)) refl
           (record { itself = once-second; rankedAbove = λ i on e. rw (only-first i on e) apart })
           3
           (record { inLog = omega arith; ofStream = refl; inTime = omega arith });
       first =
-          whole .withinWait 1 1 16 1 (on-node-1 1 (omega arith) (omega arith)) refl
-          (record { itself = apart; rankedAbove = λ i on e. absurd (highest i on e) })
+          whole .withinWait 1 1 16 1 (on-node-1 40 40 60 1 (omega arith) (omega arith)) refl
+          (record { itself = apart; rankedAbove = λ i on e. absurd (highest 40 40 60 1 refl refl i on e) })
           4
           (record { inLog = omega arith; ofStream = refl; inTime = omega arith });
     }
@@ -180,7 +187,7 @@ periodic turns next words whole =
 -- Demand 3 about these replays, with the numbers that they answer.
 pub crowded-replay : Crowded (0 ∷ notBegun ∷ 6 ∷ 11 ∷ 17 ∷ [])
 unfolding
-    sheetA logCrowded sum upTo cycle firstIn first firstOnes refuseIf _orElse_ firstOf outside
+    sheetA crowdedBy sum upTo cycle firstIn first firstOnes refuseIf _orElse_ firstOf outside
     rowWrong rowRefusal streamWrong streamRefusal bodyRefusal headerRefusal sheetRefusal
     outranks ofNode queuedBefore waiting beginsFrom serve nextNode nextBus turn start run replayed
     roomRefusal tickBefore releaseRefusal logRefusal horizonRefusal replayAnswer
@@ -194,16 +201,12 @@ unfolding
     roomRefusal tickBefore releaseRefusal logRefusal horizonRefusal replayAnswer
 periodic-replay = periodic 32 57 (0 ∷ 6 ∷ 11 ∷ 17 ∷ 40 ∷ []) (demand3 A logPeriodic 57 refl)
 
--- Sheet A with the deadline 37 for node 1's second stream.
+-- Sheet A with the deadline 37 for both streams of node 1: the shorter period is ranked above.
 abbrev A37 : List ℕ
-A37 = sheetA 40 37
-
-on-37 : (j : ℕ) → 1 ≤ j → j ≤ 2 → OnSheet A37 1 j
-unfolding sheetA
-on-37 j from upTo = record { nodeFrom = omega arith; nodeTo = omega arith; streamFrom = from; streamTo = upTo }
+A37 = sheetA 40 37 37
 
 -- Demand 2 about node 1's second stream: on sheet A it has the wait 33 at J = 2, has a place in its turn, and is not late; with the
--- deadline 37 it is late and has no wait. And about all streams: admit writes 33 for it, or refuses there, with the first in time.
+-- deadlines 37 it is late and has no wait. And about all streams: admit writes 33 for it, or refuses there, with the first in time.
 pub record Second : Type 0 where
   pub listed : StreamWait A 1 2 2 33
   pub placed : 1 ≤ interference (higherStreams A 1 2) 33
@@ -221,8 +224,8 @@ unfolding
     streamsFrom outranks above mostReleases interference waitFor lateAt verdictAt search verdict verdictOf
     unknownRefusal verdictAnswer oneStreamAnswer roomRefusal lateRefusal nodeLateRefusal waitWord waitsFrom nodeWaitsFrom bufferAfter admitAnswer admitBuffer
 second =
-    let judged = demand2 .oneStream A refl 1 2 (on-node-1 2 (omega arith) (omega arith)) in
-    let judged37 = demand2 .oneStream A37 refl 1 2 (on-37 2 (omega arith) (omega arith)) in
+    let judged = demand2 .oneStream A refl 1 2 (on-node-1 40 40 60 2 (omega arith) (omega arith)) in
+    let judged37 = demand2 .oneStream A37 refl 1 2 (on-node-1 40 37 37 2 (omega arith) (omega arith)) in
     let all = demand2 .admission A (9 ∷ 9 ∷ 9 ∷ []) refl (omega arith) in
     let all37 = demand2 .admission A37 (9 ∷ 9 ∷ 9 ∷ []) refl (omega arith) in
     let listed : StreamWait A 1 2 2 33 = judged .listed 33 2 .0 refl in
@@ -232,9 +235,9 @@ second =
       notLate = λ late. omega (arith, ap (λ (a : Answer). a .number) (judged .late .1 late));
       late = judged37 .late .0 refl;
       noWait = λ J wait h. omega (arith, ap (λ (a : Answer). a .number) (judged37 .listed wait J .1 h));
-      admitted = all .admitted refl 1 2 (on-node-1 2 (omega arith) (omega arith));
+      admitted = all .admitted refl 1 2 (on-node-1 40 40 60 2 (omega arith) (omega arith));
       refused = all37 .refused refl;
-      before = all37 .first refl 1 1 (on-37 1 (omega arith) (omega arith)) (omega arith);
+      before = all37 .first refl 1 1 (on-node-1 40 37 37 1 (omega arith) (omega arith)) (omega arith);
     }
 
 -- No stream of sheet A is late, so that demand 2 leaves admit no answer but number 0, whatever it writes.
@@ -267,7 +270,7 @@ must-admit answer words all =
 pub crowded-steps : stepped A logCrowded 3 (inFront (9 ∷ []) (start logCrowded))
     ≡ record { bus = record { tick = 23; node = 2; turns = 3 }; begins = 0 ∷ notBegun ∷ 6 ∷ 11 ∷ 17 ∷ 9 ∷ [] }
 unfolding
-    sheetA logCrowded sum upTo cycle firstIn first firstOnes refuseIf _orElse_ firstOf outside
+    sheetA crowdedBy sum upTo cycle firstIn first firstOnes refuseIf _orElse_ firstOf outside
     rowWrong rowRefusal streamWrong streamRefusal bodyRefusal headerRefusal sheetRefusal
     outranks ofNode queuedBefore waiting beginsFrom serve nextNode nextBus turn start stateAt
     tickBefore releaseRefusal logRefusal

@@ -11,10 +11,10 @@ use lib.Dec.{leb, ltb}
 use borrow.Author.Tests.{ltb-true, lt-ltb, leb-true, le-leb}
 use Rattle.model.specs.Sheet.{streamCount, streamsBefore, streamsUpTo}
 use Rattle.model.specs.Analysis.{streamOf, outranks}
-use Rattle.model.specs.Protocol.{releaseStream, ofNode, streamOfRelease, queuedBefore}
+use Rattle.model.specs.Protocol.{releaseStream, ofNode, queuedBefore}
 use Rattle.theory.proofs.Order.{TotalOn}
 use Rattle.theory.proofs.Tests.{and-reading}
-use Rattle.theory.proofs.Lexicographic.{lexicographic-reading, lexicographic-irreflexive, lexicographic-transitive, lexicographic-total}
+use Rattle.theory.proofs.Lexicographic.{as-tested, ltb-reading, lexicographic-reading, ltb-total, lexicographic-total}
 use Rattle.model.proofs.Analysis.Rank.{rank-total}
 use Rattle.theory.proofs.Sums.{sumTo-grows}
 
@@ -42,7 +42,7 @@ abbrev numberIn : List ℕ → ℕ → ℕ → ℕ
 numberIn s k r = r - streamsBefore s k
 
 -- Priority of the streams of node k by their running numbers.
-abbrev runningOutranks : List ℕ → ℕ → ℕ → ℕ → Bool
+abbrev pub runningOutranks : List ℕ → ℕ → ℕ → ℕ → Bool
 runningOutranks s k q r = outranks (streamOf s k (numberIn s k q)) (streamOf s k (numberIn s k r))
 
 -- It is a strict total order too: different running numbers of a node are different numbers within it.
@@ -59,21 +59,16 @@ running-total s k =
     }
 
 module _ (s log : List ℕ) (k : ℕ) where
-  -- A release is queued before another exactly where its stream outranks the other's, or it is of the same stream and earlier in
-  -- the log.
+  -- A release is queued before another exactly where its stream, as the sheet has it, outranks the other's, or it is of the same stream
+  -- and earlier in the log.
   pub before-reading : (a b : ℕ)
       → (queuedBefore s log k a b ≡ true)
-      ↔ ((outranks (streamOfRelease s log k a) (streamOfRelease s log k b) ≡ true)
+      ↔ ((runningOutranks s k (releaseStream log a) (releaseStream log b) ≡ true)
       ⊎ ((releaseStream log a ≡ releaseStream log b) × (a < b)))
   unfolding queuedBefore
-  before-reading = lexicographic-reading (runningOutranks s k) (releaseStream log) (λ i. i)
+  before-reading = lexicographic-reading (releaseStream log) (as-tested (runningOutranks s k)) ltb-reading
 
   -- The queue order is a strict total order on the releases of the node.
   pub queue-total : TotalOn (λ a. ofNode s k (releaseStream log a) ≡ true) (queuedBefore s log k)
   unfolding queuedBefore
-  queue-total =
-      record {
-        irreflexive = lexicographic-irreflexive (running-total s k) (releaseStream log) (λ i. i);
-        transitive = lexicographic-transitive (running-total s k) (releaseStream log) (λ i. i);
-        total = lexicographic-total (running-total s k) (releaseStream log) (λ i. i);
-      }
+  queue-total = lexicographic-total (running-total s k) (releaseStream log) (ltb-total _) (λ a own. own)

@@ -1,27 +1,23 @@
--- `rank::is_above` meets its contract: each exit rewrites the definition with the tests that led there. Assumes nothing.
-use mathlib.Core.Path.{refl}
-use borrow.Author.Tests.{lt-ltb, le-ltb, eq-eqb, ne-eqb}
-use Rattle.model.specs.Analysis.{outranks}
+-- `rank::is_above` meets its contract: each exit is one of the three laws about what decides. Assumes nothing.
+use mathlib.Core.Path.{sym}
+use Rattle.model.proofs.Analysis.Rank.{by-deadline, by-period, by-number}
 use Rattle.rank.proofs.is_above.Statement.{statement}
 use Rattle.rank.proofs.is_above.Tie as tie
 
 returns : tie.Need-returns
-unfolding outranks
 returns c =
-    let a = c .before .before .before .args in
-    rw (lt-ltb (a .x .period) (a .y .period) (c .if1 .taken)) refl
+    let a = c .before .before .before .before .before .args in
+    sym (by-deadline (a .x) (a .y) (c .before .before .if1 .taken))
 
 returns-2 : tie.Need-returns-2
-unfolding outranks
 returns-2 c =
     let a = c .before .before .before .before .before .before .before .before .args in
-    rw (le-ltb (a .x .period) (a .y .period) (c .before .before .before .before .before .if1 .left), eq-eqb (a .x .period) (a .y .period) (c .before .before .if2 .taken)) refl
+    sym (by-period (a .x) (a .y) (c .before .before .before .before .before .if1 .left) (c .before .before .if2 .taken))
 
 returns-3 : tie.Need-returns-3
-unfolding outranks
 returns-3 c =
-    let a = c .before .before .before .before .before .before .args in
-    rw (le-ltb (a .x .period) (a .y .period) (c .before .before .before .if1 .left), ne-eqb (a .x .period) (a .y .period) (c .if2 .left)) refl
+    let a = c .before .before .before .before .before .before .before .before .args in
+    sym (by-number (a .x) (a .y) (c .before .before .before .before .before .if1 .left) (c .before .before .if2 .left))
 
 pub is-above-spec : {M : Type 1} → statement M
 is-above-spec = tie.close (tie.spec returns returns-2 returns-3)
