@@ -1,5 +1,5 @@
--- What a reader must believe: document 01 as definitions that compute, by subject. (Limits names its numbers, Refusal puts refusals in
--- order, Idle is derived, and Bench has its bench sheets.)
+-- What a reader must believe: document 01, with what document 02 has changed so far, as definitions that compute, by subject. (Limits names its
+-- numbers, Refusal puts refusals in order, Idle is derived, and Bench has its bench sheets.)
 pub mod Limits
 pub mod Refusal
 pub mod Sheet
