@@ -9,7 +9,7 @@ use Rattle.model.specs.Analysis.{streamsFrom, outranks, above, mostReleases, in
 use Rattle.model.specs.Protocol.{ofNode, queuedBefore, waiting, beginsFrom, serve, nextNode, nextBus, turn, start, run, replayed}
 use Rattle.model.specs.Answers.{roomRefusal, tickBefore, releaseRefusal, logRefusal, horizonRefusal, lateRefusal, nodeLateRefusal, waitWord, waitsFrom, nodeWaitsFrom, bufferAfter, unknownRefusal, verdictAnswer, recordRefusal, oneStreamAnswer, admitAnswer, admitBuffer, replayAnswer, replayBuffer, stepRefusal, stepAnswer, stepBus, stepBuffer}
 use Rattle.model.specs.Bench.{sheetA, sheetA6, sheetP7, logP9, logP11}
-use Rattle.cases.specs.Cases.{AllHold, cases, gives, outcomeOf, lent, Further, sheetEqual, logBoth, firstTurn, madeUpBus, madeUpRoom}
+use Rattle.cases.specs.Cases.{AllHold, cases, gives, outcomeOf, lent, Further, sheetEqual, logBoth, madeUpBus, madeUpRoom}
 
 pub all-hold : AllHold
 unfolding
@@ -33,7 +33,7 @@ unfolding
     unknownRefusal verdictAnswer oneStreamAnswer
     roomRefusal tickBefore releaseRefusal logRefusal horizonRefusal lateRefusal nodeLateRefusal waitWord waitsFrom nodeWaitsFrom bufferAfter
     admitAnswer admitBuffer replayAnswer replayBuffer recordRefusal stepRefusal stepAnswer stepBus stepBuffer
-    lent sheetA logP11 sheetEqual logBoth firstTurn madeUpBus madeUpRoom
+    lent sheetA logP11 sheetEqual logBoth madeUpBus madeUpRoom
 further =
     record {
       secondStream = refl;

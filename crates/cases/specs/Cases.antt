@@ -9,7 +9,7 @@ use Rattle.model.specs.declared.Bus.{Bus}
 use Rattle.model.specs.Limits.{notBegun}
 use Rattle.model.specs.Refusal.{success, refuse}
 use Rattle.model.specs.Sheet.{totalStreams}
-use Rattle.model.specs.Protocol.{releases}
+use Rattle.model.specs.Protocol.{releases, start}
 use Rattle.model.specs.Answers.{oneStreamAnswer, admitAnswer, admitBuffer, replayAnswer, replayBuffer, stepAnswer, stepBus, stepBuffer}
 use Rattle.model.specs.Bench.{sheetA, sheetA6, sheetP7, logP9, logP11}
 
@@ -74,10 +74,6 @@ sheetEqual = 1 ∷ 5 ∷ 1 ∷ 6 ∷ 3 ∷ 2 ∷ 100 ∷ 100 ∷ 100 ∷ 50 ∷ 
 unfoldable pub logBoth : List ℕ
 logBoth = 0 ∷ 1 ∷ 0 ∷ 2 ∷ []
 
--- The record of the first turn.
-unfoldable pub firstTurn : Bus
-firstTurn = record { tick = 0; node = 1; turns = 0 }
-
 -- A record and a buffer as nobody has made them by steps: of the log of P11, the second of node 2's two releases has begun and the
 -- first has not; the last word is no release's.
 unfoldable pub madeUpBus : Bus
@@ -101,7 +97,7 @@ pub record Further : Type 0 where
   pub replayByDeadline : replayBuffer (sheetA 40 40 38) logBoth 8 (lent 2) ≡ 7 ∷ 0 ∷ 9 ∷ []
   pub replayByPeriod : replayBuffer (sheetA 61 38 38) logBoth 8 (lent 2) ≡ 7 ∷ 0 ∷ 9 ∷ []
   pub replayByNumber : replayBuffer (sheetA 60 38 38) logBoth 8 (lent 2) ≡ 0 ∷ 7 ∷ 9 ∷ []
-  pub stepByDeadline : stepBuffer (sheetA 40 40 38) logBoth firstTurn (replicate 2 notBegun) ≡ notBegun ∷ 0 ∷ []
+  pub stepByDeadline : stepBuffer (sheetA 40 40 38) logBoth (start logBoth .bus) (start logBoth .begins) ≡ notBegun ∷ 0 ∷ []
   pub roomBeforeLate : admitAnswer (sheetA 40 37 37) 2 ≡ refuse 6 0 0
   pub sheetBeforeRoom : admitAnswer (sheetA 0 0 60) 0 ≡ refuse 5 1 1
   pub logBeforeHorizon : replayAnswer (sheetA 40 40 60) (0 ∷ 4 ∷ []) 1_000_000_001 0 ≡ refuse 9 0 1

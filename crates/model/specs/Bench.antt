@@ -27,10 +27,11 @@ logP11 = 0 ∷ 2 ∷ 0 ∷ 3 ∷ 0 ∷ 3 ∷ 1 ∷ 1 ∷ []
 unfoldable pub crowdedBy : ℕ → ℕ → List ℕ
 crowdedBy often once = 0 ∷ often ∷ 0 ∷ often ∷ 0 ∷ 3 ∷ 0 ∷ 3 ∷ 1 ∷ once ∷ []
 
--- The second stream of node 1 releases often, or the first.
+-- The second stream of node 1 releases often, and the first once.
 abbrev pub logCrowded : List ℕ
 logCrowded = crowdedBy 2 1
 
+-- The first releases often, and the second once.
 abbrev pub logUrgent : List ℕ
 logUrgent = crowdedBy 1 2
 

@@ -4,13 +4,13 @@ use Prim.Native.Nat.{ℕ, _<_}
 use native.Mathlib.Nat.{lt-irrefl, lt-trans}
 use native.Mathlib.Decide.{ℕ-discrete, decLt}
 use native.Mathlib.Omega.{arith}
-use mathlib.Core.Path.{_≡_, sym, _∙_}
+use mathlib.Core.Path.{_≡_, refl, sym, _∙_}
 use mathlib.Core.Logic.{_↔_, _⊎_, inl, inr, ⊎-elim, ⊎-map, by-cases}
-use mathlib.Core.Bool.{Bool, true, _&&_, _||_}
+use mathlib.Core.Bool.{Bool, true, _&&_, _||_, or-false}
 use lib.Dec.{ltb, eqb}
-use borrow.Author.Tests.{ltb-true, lt-ltb, eqb-true, eq-eqb}
+use borrow.Author.Tests.{ltb-true, lt-ltb, eqb-true, eq-eqb, ne-eqb}
 use Rattle.theory.proofs.Order.{TotalOn}
-use Rattle.theory.proofs.Tests.{and-reading, or-reading}
+use Rattle.theory.proofs.Tests.{fails, and-reading, or-reading}
 
 -- The test: an earlier key, or an equal key and before by the further order.
 abbrev pub lexicographic : {A : Type 0} → (ℕ → ℕ → Bool) → (A → ℕ) → (A → A → Bool) → A → A → Bool
@@ -38,15 +38,34 @@ lexicographic-reading {less = less} {further = further} key first rest a b =
       λ f. either .1 (⊎-map (first (key a) (key b) .1) (λ h. both .1 (eq-eqb _ _ (h .0), rest a b .1 (h .1))) f),
     )
 
+-- Different keys decide.
+pub lexicographic-decided : {A : Type 0} (less : ℕ → ℕ → Bool) (key : A → ℕ) (further : A → A → Bool) (a b : A)
+    → (key a ≡ key b → ⊥)
+    → lexicographic less key further a b ≡ less (key a) (key b)
+lexicographic-decided less key further a b differ = rw (ne-eqb (key a) (key b) differ) (or-false (less (key a) (key b)))
+
+-- Equal keys, none of which comes before itself, leave it to the further order.
+pub lexicographic-tied : {A : Type 0} (less : ℕ → ℕ → Bool) (key : A → ℕ) (further : A → A → Bool) (a b : A)
+    → ((n : ℕ) → less n n ≡ true → ⊥)
+    → key a ≡ key b
+    → lexicographic less key further a b ≡ further a b
+lexicographic-tied less key further a b irreflexive same =
+    let not-less = fails (less (key a) (key b)) (λ e. irreflexive (key b) (rw same at e)) in
+    rw (not-less, eq-eqb (key a) (key b) same) refl
+
 -- Of two different numbers one is below the other.
 apart : (a b : ℕ) → (a ≡ b → ⊥) → (a < b) ⊎ (b < a)
 apart a b differ = by-cases (decLt a b) (λ h. inl h) (λ n. inr (omega arith))
+
+-- No number is below itself.
+pub ltb-irreflexive : (a : ℕ) → ltb a a ≡ true → ⊥
+ltb-irreflexive a e = lt-irrefl a (ltb-true a a e)
 
 -- The order of the numbers is a strict total order, on any of them.
 pub ltb-total : (Member : ℕ → Type 0) → TotalOn Member ltb
 ltb-total Member =
     record {
-      irreflexive = λ a e. lt-irrefl a (ltb-true a a e);
+      irreflexive = ltb-irreflexive;
       transitive = λ a b c p q. lt-ltb a c (lt-trans (ltb-true a b p) (ltb-true b c q));
       total = λ a b _ _ differ. ⊎-map (lt-ltb a b) (lt-ltb b a) (apart a b differ);
     }

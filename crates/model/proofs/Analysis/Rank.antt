@@ -1,18 +1,29 @@
 -- Priority, "rank", is a strict total order on the streams of a node: it is lexicographic, by deadline, then by period, then by number.
 -- Assumes nothing.
 use Prim.Native.Nat.{ℕ, _<_}
-use native.Mathlib.Nat.{le-of-eq}
-use mathlib.Core.Path.{_≡_, refl, sym}
+use mathlib.Core.Path.{_≡_, _∙_}
 use mathlib.Core.Logic.{_↔_, _⊎_}
-use mathlib.Core.Bool.{true, or-false}
+use mathlib.Core.Bool.{Bool, true}
 use mathlib.Core.List.{List}
 use lib.Dec.{ltb}
-use borrow.Author.Tests.{le-ltb, eq-eqb, ne-eqb}
 use Rattle.model.specs.declared.Stream.{Stream}
 use Rattle.model.specs.Sheet.{period, deadline}
 use Rattle.model.specs.Analysis.{streamOf, outranks}
 use Rattle.theory.proofs.Order.{TotalOn}
-use Rattle.theory.proofs.Lexicographic.{ltb-reading, lexicographic-reading, ltb-total, lexicographic-total}
+use Rattle.theory.proofs.Lexicographic.{lexicographic, ltb-reading, lexicographic-reading, lexicographic-decided, lexicographic-tied, ltb-irreflexive, ltb-total, lexicographic-total}
+
+-- The parts of the order: the two keys, the order of the numbers, and what equal deadlines leave it to.
+abbrev deadlineOf : Stream → ℕ
+deadlineOf x = x .deadline
+
+abbrev periodOf : Stream → ℕ
+periodOf x = x .period
+
+abbrev lowerNumber : Stream → Stream → Bool
+lowerNumber x y = ltb (x .number) (y .number)
+
+abbrev byPeriod : Stream → Stream → Bool
+byPeriod = lexicographic ltb periodOf lowerNumber
 
 -- A stream outranks another exactly where its deadline is shorter, or the deadlines are equal and its period is shorter, or both are
 -- equal and its number is lower.
@@ -23,13 +34,13 @@ pub outranks-reading : (x y : Stream)
     × ((x .period < y .period) ⊎ ((x .period ≡ y .period) × (x .number < y .number)))))
 unfolding outranks
 outranks-reading =
-    lexicographic-reading (λ (x : Stream). x .deadline) ltb-reading
-    (lexicographic-reading (λ (x : Stream). x .period) ltb-reading (λ x y. ltb-reading (x .number) (y .number)))
+    lexicographic-reading deadlineOf ltb-reading
+    (lexicographic-reading periodOf ltb-reading (λ x y. ltb-reading (x .number) (y .number)))
 
 -- So different deadlines decide;
 pub by-deadline : (x y : Stream) → (x .deadline ≡ y .deadline → ⊥) → outranks x y ≡ ltb (x .deadline) (y .deadline)
 unfolding outranks
-by-deadline x y differ = rw (ne-eqb _ _ differ) (or-false _)
+by-deadline = lexicographic-decided ltb deadlineOf byPeriod
 
 -- where they are equal, different periods;
 pub by-period : (x y : Stream)
@@ -37,7 +48,8 @@ pub by-period : (x y : Stream)
     → (x .period ≡ y .period → ⊥)
     → outranks x y ≡ ltb (x .period) (y .period)
 unfolding outranks
-by-period x y same differ = rw (le-ltb _ _ (le-of-eq (sym same)), eq-eqb _ _ same, ne-eqb _ _ differ) (or-false _)
+by-period x y same differ =
+    lexicographic-tied ltb deadlineOf byPeriod x y ltb-irreflexive same ∙ lexicographic-decided ltb periodOf lowerNumber x y differ
 
 -- and where both are equal, the numbers.
 pub by-number : (x y : Stream)
@@ -46,7 +58,7 @@ pub by-number : (x y : Stream)
     → outranks x y ≡ ltb (x .number) (y .number)
 unfolding outranks
 by-number x y same equal =
-    rw (le-ltb _ _ (le-of-eq (sym same)), eq-eqb _ _ same, le-ltb _ _ (le-of-eq (sym equal)), eq-eqb _ _ equal) refl
+    lexicographic-tied ltb deadlineOf byPeriod x y ltb-irreflexive same ∙ lexicographic-tied ltb periodOf lowerNumber x y ltb-irreflexive equal
 
 -- Priority is a strict total order on the streams of a node, by their numbers.
 pub rank-total : (s : List ℕ) (k : ℕ) → TotalOn (λ j. Unit) (λ i j. outranks (streamOf s k i) (streamOf s k j))
