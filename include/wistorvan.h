@@ -19,9 +19,11 @@ extern "C" {
 /* The word of a release that has not begun. */
 #define WISTORVAN_NOT_BEGUN UINT32_C(4294967295)
 
-/* The most streams of a sheet and releases of a log: rooms of so many words are always long enough. */
+/* The most streams of a sheet and releases of a log, and the words of the longest sheet: rooms of so many words are always long
+   enough. */
 #define WISTORVAN_MAX_STREAMS 256
 #define WISTORVAN_MAX_RELEASES 4096
+#define WISTORVAN_LONGEST_SHEET 563
 
 /* The first number of an answer, by name: success, or what is refused. Of all refusals that apply, the first in the order that
    stands at each function is given. 11 to 15 are kept for later ones, so expect numbers that have no name here yet. */
@@ -34,12 +36,16 @@ enum wistorvan_number {
     WISTORVAN_BAD_NODE_COUNT = 2,
     /* TMS or TPR, the duration of a message or of a protocol slot in ticks, is not 1 to 10,000. Place: 0, 0. */
     WISTORVAN_BAD_DURATION = 3,
-    /* The contents. First, the sheet has fewer than 3 + 3n words: place 0, 0. Then, node by node, a row has a wrong place of the
-       body, more than 16 streams or a budget that is not 1 to 16: place node, 0. Then, the total length is wrong: place 0, 0. */
+    /* The contents. First, the sheet has fewer than 3 + 3n words, or the tables of budgets and counts (write_sheet) differ in
+       length: place 0, 0. Then, node by node, a row has a wrong place of the body, more than 16 streams or a budget that is not
+       1 to 16: place node, 0. Then, the total length is wrong, or the tables of periods and deadlines (write_sheet) do not have
+       a word for each stream counted: place 0, 0. */
     WISTORVAN_BAD_CONTENTS = 4,
-    /* A period is not 1 to 1,000,000,000 or a deadline not 1 to its period, first in sheet order. Place: node, stream. */
+    /* A period is not 1 to 1,000,000,000 or a deadline not 1 to its period, on the sheet or in the tables (write_sheet), first in
+       sheet order. Place: node, stream. */
     WISTORVAN_BAD_STREAM = 5,
-    /* The room is shorter than one word a stream (admit) or a release (replay, step). Place: 0, 0. */
+    /* The room is shorter than one word a stream (admit) or a release (replay, step), or than the sheet (write_sheet).
+       Place: 0, 0. */
     WISTORVAN_ROOM_TOO_SHORT = 6,
     /* A stream is late: the first in sheet order (admit) or the asked one (one_stream). Place: node, stream. */
     WISTORVAN_LATE = 7,
@@ -87,6 +93,16 @@ struct wistorvan_answer wistorvan_replay(const uint32_t *sheet, size_t sheet_wor
    Refusals 1 to 5, 9, 16, 6. */
 struct wistorvan_answer wistorvan_step(const uint32_t *sheet, size_t sheet_words, const uint32_t *log, size_t log_words,
                                        struct wistorvan_bus *bus, uint32_t *room, size_t room_words);
+
+/* Makes a sheet from tables, in the first words of the room: words written and full cycle. Counts of streams and budgets have a
+   word for each node, n is the length of the counts; periods and deadlines have a word for each stream, node by node. Only what
+   is valid is written; whether it is admitted is for admit to say. Refusals 2, 3, 4, 5, 6. */
+struct wistorvan_answer wistorvan_write_sheet(uint32_t message_ticks, uint32_t slot_ticks,
+                                              const uint32_t *counts, size_t counts_words,
+                                              const uint32_t *budgets, size_t budgets_words,
+                                              const uint32_t *periods, size_t periods_words,
+                                              const uint32_t *deadlines, size_t deadlines_words,
+                                              uint32_t *room, size_t room_words);
 
 #ifdef __cplusplus
 }

@@ -1,11 +1,15 @@
 //! Times the proved library beside the second program, both built for
 //! release, in one run: `bench admit`, `bench search`, `bench hardest`,
-//! `bench replay`. Each figure is the median of nine runs over the same inputs
-//! (`bench hardest` runs once); rooms are not cleared between runs.
+//! `bench replay`, `bench write`. Each figure is the median of nine runs over
+//! the same inputs (`bench hardest` runs once); rooms are not cleared between
+//! runs.
 
 use std::hint::black_box;
 use std::process::ExitCode;
 use std::time::Instant;
+
+use peer::Tables;
+use wistorvan::LONGEST_SHEET;
 
 const RUNS: usize = 9;
 
@@ -255,14 +259,75 @@ fn replay() {
     }
 }
 
+/// A sheet is written so many times a run, since once takes too short a time.
+const WRITES: usize = 10_000;
+
+/// Times the writing of a sheet from its tables by both.
+fn write_pair(what: &str, tables: &Tables) {
+    let lent = wistorvan::Tables {
+        message_ticks: tables.message_ticks,
+        slot_ticks: tables.slot_ticks,
+        counts: &tables.counts,
+        budgets: &tables.budgets,
+        periods: &tables.periods,
+        deadlines: &tables.deadlines,
+    };
+    let mut room = [0u32; LONGEST_SHEET];
+    let answer = wistorvan::raw::write_sheet(&lent, &mut room);
+    assert_eq!(answer.number, 0);
+    let proved = median(|| {
+        for _ in 0..WRITES {
+            let room = black_box(&mut room[..]);
+            black_box(wistorvan::raw::write_sheet(black_box(&lent), room));
+        }
+    });
+    let second = median(|| {
+        for _ in 0..WRITES {
+            let room = black_box(&mut room[..]);
+            black_box(peer::write_sheet(black_box(tables), room));
+        }
+    });
+    let what = format!("{what}, {} words", answer.second);
+    print_pair(&what, WRITES as f64, proved, second);
+}
+
+/// As many streams in each node, and all alike.
+fn write_even(nodes: usize, streams: u32) {
+    let all = nodes * streams as usize;
+    let tables = Tables {
+        message_ticks: 5,
+        slot_ticks: 1,
+        counts: vec![streams; nodes],
+        budgets: vec![4; nodes],
+        periods: vec![1000; all],
+        deadlines: vec![900; all],
+    };
+    write_pair(&format!("{nodes} nodes of {streams} streams"), &tables);
+}
+
+fn write() {
+    write_even(16, 16);
+    write_even(8, 8);
+    let tables_a = Tables {
+        message_ticks: 5,
+        slot_ticks: 1,
+        counts: vec![2, 1],
+        budgets: vec![1, 2],
+        periods: vec![40, 60, 30],
+        deadlines: vec![40, 60, 30],
+    };
+    write_pair("sheet A", &tables_a);
+}
+
 fn main() -> ExitCode {
     match std::env::args().nth(1).as_deref() {
         Some("admit") => admit(),
         Some("search") => search(),
         Some("hardest") => hardest(),
         Some("replay") => replay(),
+        Some("write") => write(),
         _ => {
-            eprintln!("usage: bench admit | search | hardest | replay");
+            eprintln!("usage: bench admit | search | hardest | replay | write");
             return ExitCode::from(2);
         }
     }

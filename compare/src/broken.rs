@@ -1,19 +1,21 @@
 //! The proved library against variants of the second program that make the
-//! errors listed in document 01, or go by a wrong rank. Each of them has to
-//! differ somewhere.
+//! errors listed in document 01, go by a wrong rank, or write a sheet wrongly.
+//! Each of them has to differ somewhere.
 
 use peer::broken;
-use peer::generate::{case, Case};
+use peer::generate::{case, tables_case, Case, TablesCase};
 
 use crate::tally::Outcome;
+use crate::writer::{written_by_proved, written_by_second, Writer};
 use crate::{proved, second};
 
 enum Entry {
     Admit(fn(&[u32], &mut [u32]) -> peer::Answer),
     Replay(fn(&[u32], &[u32], u32, &mut [u32]) -> peer::Answer),
+    Write(Writer),
 }
 
-const VARIANTS: [(&str, Entry); 11] = [
+const VARIANTS: [(&str, Entry); 19] = [
     (
         "1, releases counted by ceiling",
         Entry::Admit(broken::admit_by_ceiling),
@@ -58,15 +60,52 @@ const VARIANTS: [(&str, Entry); 11] = [
         "11, replay with ties ranked by the higher number",
         Entry::Replay(broken::replay_tied_by_higher_number),
     ),
+    (
+        "12, all bodies at the first one's place",
+        Entry::Write(broken::write_one_place),
+    ),
+    (
+        "13, count and budget swapped",
+        Entry::Write(broken::write_rows_swapped),
+    ),
+    (
+        "14, refusal 6 before refusal 5",
+        Entry::Write(broken::write_room_before_streams),
+    ),
+    (
+        "15, any number of deadlines",
+        Entry::Write(broken::write_any_deadlines),
+    ),
+    (
+        "16, a word written past the sheet",
+        Entry::Write(broken::write_past_the_sheet),
+    ),
+    (
+        "17, a cycle without the last budget",
+        Entry::Write(broken::write_short_cycle),
+    ),
+    (
+        "18, period and deadline swapped",
+        Entry::Write(broken::write_bodies_swapped),
+    ),
+    (
+        "19, the room written before refusal 5 is found",
+        Entry::Write(broken::write_before_streams),
+    ),
 ];
 
 /// For each variant, what the library and the variant give if they differ.
-fn differences(case: &Case) -> [Option<(Outcome, Outcome)>; VARIANTS.len()] {
+fn differences(
+    case: &Case,
+    tables_case: &TablesCase,
+) -> [Option<(Outcome, Outcome)>; VARIANTS.len()] {
     let (sheet, log, horizon) = (&case.sheet, &case.log, case.horizon);
+    let TablesCase { tables, room } = tables_case;
     let admit = proved(&case.room, |room| wistorvan::raw::admit(sheet, room));
     let replay = proved(&case.room, |room| {
         wistorvan::raw::replay(sheet, log, horizon, room)
     });
+    let write = written_by_proved(tables, room);
     VARIANTS.each_ref().map(|(_, entry)| {
         let (good, bad) = match entry {
             Entry::Admit(entry) => (&admit, second(&case.room, |room| entry(sheet, room))),
@@ -74,6 +113,7 @@ fn differences(case: &Case) -> [Option<(Outcome, Outcome)>; VARIANTS.len()] {
                 &replay,
                 second(&case.room, |room| entry(sheet, log, horizon, room)),
             ),
+            Entry::Write(entry) => (&write, written_by_second(*entry, tables, room)),
         };
         (*good != bad).then(|| (good.clone(), bad))
     })
@@ -83,7 +123,7 @@ fn differences(case: &Case) -> [Option<(Outcome, Outcome)>; VARIANTS.len()] {
 pub fn run(seed: u64, count: u64) -> bool {
     let mut caught = [(0u64, None); VARIANTS.len()];
     for index in 0..count {
-        let found = differences(&case(seed, index));
+        let found = differences(&case(seed, index), &tables_case(seed, index));
         for ((times, first), _) in caught.iter_mut().zip(found).filter(|(_, it)| it.is_some()) {
             *times += 1;
             first.get_or_insert(index);
@@ -101,10 +141,10 @@ pub fn run(seed: u64, count: u64) -> bool {
     caught.iter().all(|(times, _)| *times > 0)
 }
 
-/// Shows one case again; whether any variant is caught on it.
+/// Shows one case and its tables again; whether any variant is caught on them.
 pub fn one(seed: u64, index: u64) -> bool {
-    let case = case(seed, index);
-    let found = differences(&case);
+    let (case, tables) = (case(seed, index), tables_case(seed, index));
+    let found = differences(&case, &tables);
     for ((error, _), difference) in VARIANTS.iter().zip(&found) {
         if let Some((good, bad)) = difference {
             println!("error {error}: differs");
@@ -113,5 +153,6 @@ pub fn one(seed: u64, index: u64) -> bool {
         }
     }
     println!("on {case:?}");
+    println!("and {tables:?}");
     found.iter().any(Option::is_some)
 }

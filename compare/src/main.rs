@@ -6,19 +6,22 @@ mod broken;
 mod far;
 mod programs;
 mod tally;
+mod writer;
 
 use std::io;
 use std::process::ExitCode;
 
-use peer::generate::{case, named, Case};
+use peer::generate::{case, named, named_tables, tables_case, Case, TablesCase};
 use programs::{Programs, CHANGES};
 use tally::{Outcome, Tally, EXPECTED, FAR};
+use writer::{compare_tables, compare_written_again};
 
-const USAGE: &str = "usage: compare SEED COUNT (cases 0 to COUNT - 1 and the named ones)
-       compare SEED INDEX one (one case again)
+const USAGE: &str = "usage: compare SEED COUNT (cases and tables 0 to COUNT - 1 and the named ones)
+       compare SEED INDEX one (one case and its tables again)
        compare SEED INDEX named (one named case again, whatever the seed)
+       compare SEED INDEX named tables (one of the named tables again)
        compare SEED COUNT broken (against the broken variants)
-       compare SEED INDEX broken one (one case again, against those)
+       compare SEED INDEX broken one (one case and its tables again, against those)
 ";
 
 /// Starting a program takes long, so only one case in so many is run with it,
@@ -54,7 +57,8 @@ fn proved(room: &[u32], mut entry: impl FnMut(&mut [u32]) -> wistorvan::raw::Ans
     }
 }
 
-/// All entries on one case; whether what the programs write has far numbers.
+/// All entries that take a sheet, and the writer on the case's own if it is
+/// valid; whether what the programs write has far numbers.
 fn compare_case(tally: &mut Tally, name: &str, case: &Case) -> bool {
     tally.new_case();
     compare_sheet(tally, name, case);
@@ -63,6 +67,7 @@ fn compare_case(tally: &mut Tally, name: &str, case: &Case) -> bool {
     let (whole, far_replay) = compare_replay(tally, name, case);
     compare_step(tally, name, case);
     compare_steps(tally, name, case, &whole);
+    compare_written_again(tally, name, case);
     far_waits || far_replay
 }
 
@@ -171,7 +176,8 @@ fn stepped(case: &Case, turns: u32) -> Outcome {
     Outcome { answer, left }
 }
 
-/// The generated cases and the named ones, some of them with the programs.
+/// The generated cases and tables and the named ones, some of the cases with
+/// the programs.
 fn run_all(seed: u64, count: u64) -> io::Result<Tally> {
     let (programs, mut tally) = (Programs::new()?, Tally::default());
     let mut far_left = FAR_PROGRAMS;
@@ -179,6 +185,7 @@ fn run_all(seed: u64, count: u64) -> io::Result<Tally> {
         let name = format!("case {index}: `compare {seed} {index} one`");
         let case = case(seed, index);
         let far = compare_case(&mut tally, &name, &case);
+        compare_tables(&mut tally, &name, &tables_case(seed, index));
         if index % PROGRAMS_EVERY == 0 {
             let change = (index / PROGRAMS_EVERY) as usize % CHANGES.len();
             programs.compare(&mut tally, &name, &case, &CHANGES[change..=change])?;
@@ -195,6 +202,10 @@ fn run_all(seed: u64, count: u64) -> io::Result<Tally> {
         let name = format!("{name}: `compare {seed} {index} named`");
         run_one(&programs, &mut tally, &name, case)?;
     }
+    for (index, (name, tables)) in named_tables().iter().enumerate() {
+        let name = format!("{name}: `compare {seed} {index} named tables`");
+        compare_tables(&mut tally, &name, tables);
+    }
     tally.expect(&FAR);
     tally.expect(&EXPECTED);
     Ok(tally)
@@ -206,24 +217,36 @@ fn run_one(programs: &Programs, tally: &mut Tally, name: &str, case: &Case) -> i
     programs.compare(tally, name, case, &CHANGES)
 }
 
-fn run_again(name: &str, case: &Case) -> io::Result<Tally> {
+/// What is given again; whether all of it is as it should be.
+fn run_again(name: &str, case: Option<&Case>, tables: Option<&TablesCase>) -> io::Result<bool> {
     let mut tally = Tally::default();
-    run_one(&Programs::new()?, &mut tally, name, case)?;
-    Ok(tally)
+    if let Some(case) = case {
+        run_one(&Programs::new()?, &mut tally, name, case)?;
+    }
+    if let Some(tables) = tables {
+        compare_tables(&mut tally, name, tables);
+    }
+    Ok(tally.report())
 }
 
 /// Whether all is as it should be, or None if the arguments make no sense.
 fn run(arguments: &[&str]) -> Option<io::Result<bool>> {
     let seed: u64 = arguments.first()?.parse().ok()?;
     let number: u64 = arguments.get(1)?.parse().ok()?;
-    let again = |name: &str, case: &Case| run_again(name, case).map(|tally| tally.report());
+    let index = usize::try_from(number).ok()?;
     Some(match arguments[2..] {
         [] => run_all(seed, number).map(|tally| tally.report()),
-        ["one"] => again("that case", &case(seed, number)),
+        ["one"] => {
+            let (case, tables) = (case(seed, number), tables_case(seed, number));
+            run_again("that case", Some(&case), Some(&tables))
+        }
         ["named"] => {
-            let cases = named();
-            let (name, case) = cases.get(usize::try_from(number).ok()?)?;
-            again(name, case)
+            let (name, case) = &named().into_iter().nth(index)?;
+            run_again(name, Some(case), None)
+        }
+        ["named", "tables"] => {
+            let (name, tables) = &named_tables().into_iter().nth(index)?;
+            run_again(name, None, Some(tables))
         }
         ["broken"] => Ok(broken::run(seed, number)),
         ["broken", "one"] => Ok(broken::one(seed, number)),

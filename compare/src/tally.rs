@@ -3,8 +3,6 @@
 use std::collections::{BTreeMap, BTreeSet};
 use std::fmt::Debug;
 
-use peer::generate::Case;
-
 use crate::far;
 
 /// An entry, the number it answered, and the kind of place or what was far.
@@ -23,7 +21,7 @@ pub const FAR: [Kind; 8] = [
 ];
 
 /// The answers that a whole run must have met.
-pub const EXPECTED: [Kind; 62] = [
+pub const EXPECTED: [Kind; 71] = [
     ("sheet", 0, "success"),
     ("sheet", 1, "0 0"),
     ("sheet", 2, "0 0"),
@@ -68,6 +66,15 @@ pub const EXPECTED: [Kind; 62] = [
     ("step", 9, "0 and a number"),
     ("step", 16, "0 0"),
     ("replay as steps", 0, "success"),
+    ("write", 0, "success"),
+    ("write", 2, "0 0"),
+    ("write", 3, "0 0"),
+    ("write", 4, "0 0"),
+    ("write", 4, "node 0"),
+    ("write", 5, "node stream"),
+    ("write", 6, "0 0"),
+    ("read back", 0, "success"),
+    ("written again", 0, "success"),
     ("admit program", 0, "success"),
     ("admit program", 1, "0 0"),
     ("admit program", 2, "0 0"),
@@ -109,6 +116,7 @@ pub struct Outcome<Left = Vec<u32>> {
 #[derive(Default)]
 pub struct Tally {
     cases: u64,
+    tables: u64,
     differences: u64,
     answers: BTreeMap<Kind, u64>,
     missing: BTreeSet<Kind>,
@@ -119,12 +127,16 @@ impl Tally {
         self.cases += 1;
     }
 
+    pub fn new_tables(&mut self) {
+        self.tables += 1;
+    }
+
     /// Counts one answer, and says where the two programs differ.
     pub fn compare<Left: PartialEq + Debug>(
         &mut self,
         entry: &'static str,
         name: &str,
-        case: &Case,
+        case: &dyn Debug,
         proved: &Outcome<Left>,
         second: &Outcome<Left>,
     ) {
@@ -157,6 +169,7 @@ impl Tally {
     /// that was expected.
     pub fn report(&self) -> bool {
         println!("cases {}", self.cases);
+        println!("tables {}", self.tables);
         for ((entry, number, place), times) in &self.answers {
             println!("{entry} {number} ({place}) {times}");
         }

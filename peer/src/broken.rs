@@ -1,11 +1,18 @@
-//! The five errors that document 01 has seen in fitters' sheets, and three
-//! wrong ranks, each made on purpose, so that a comparison can show that it
-//! catches them. All else is as in the good program.
+//! The five errors that document 01 has seen in fitters' sheets, three wrong
+//! ranks and eight wrong writers, each made on purpose, so that a comparison
+//! can show that it catches them. All else is as in the good program.
+
+mod writer;
 
 use crate::admission::{last_try, late, listed, write_waits};
 use crate::replay::{write_begins, Operation};
 use crate::sheet::{by_deadline, Bus, Rank, MOST_STREAMS_A_NODE};
 use crate::{admission, replay, success, Answer, NOT_BEGUN};
+
+pub use writer::{
+    write_any_deadlines, write_before_streams, write_bodies_swapped, write_one_place,
+    write_past_the_sheet, write_room_before_streams, write_rows_swapped, write_short_cycle,
+};
 
 /// A bus whose clock may stand still is given up after so many turns.
 pub const MOST_TURNS: u64 = 100_000;

@@ -1,8 +1,9 @@
-//! The independent second program: written from document 01 and, for the
-//! rank, request One of document 02 alone, so that the proved program can be
-//! compared with it. It shares no code with that program, and keeps other
-//! accounts: running remainders in the search for J, one queue a stream in the
-//! replay. That J is tried from 1 up, as far as the deadline allows, is the
+//! The independent second program: written from document 01 and, for the rank
+//! and the writer, requests One and Two of document 02 alone, so that the
+//! proved program can be compared with it. It shares no code with that program,
+//! and keeps other accounts: running remainders in the search for J, one queue
+//! a stream in the replay, a sheet put together apart from the room in the
+//! writer. That J is tried from 1 up, as far as the deadline allows, is the
 //! same in both.
 //!
 //! Every entry is total: whatever is handed in gets an answer, and a refusal
@@ -17,11 +18,13 @@ mod sheet;
 pub mod stats;
 mod step;
 pub mod text;
+mod writer;
 
 pub use admission::{admit, one_stream};
 pub use replay::replay;
 pub use sheet::check_sheet;
 pub use step::step;
+pub use writer::{read_tables, write_sheet, Tables};
 
 /// The word in a room of begin ticks that stands for a message not begun.
 pub const NOT_BEGUN: u32 = 4294967295;

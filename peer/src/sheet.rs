@@ -11,9 +11,9 @@ pub(crate) const LONGEST_SLOT: u32 = 10_000;
 /// Longest period, latest release, latest horizon and latest record tick.
 pub(crate) const LAST_TICK: u32 = 1_000_000_000;
 
-const HEADER_WORDS: usize = 3;
-const ROW_WORDS: usize = 3;
-const STREAM_WORDS: usize = 2;
+pub(crate) const HEADER_WORDS: usize = 3;
+pub(crate) const ROW_WORDS: usize = 3;
+pub(crate) const STREAM_WORDS: usize = 2;
 
 #[derive(Clone, Copy, Default)]
 pub(crate) struct Stream {

@@ -2,6 +2,7 @@
 //! causes are read off the words here, apart from the code that refuses.
 
 mod rank;
+mod tables;
 
 use std::collections::BTreeMap;
 use std::fmt;
@@ -10,6 +11,8 @@ use crate::admission::{last_try, least_cycles};
 use crate::generate::{case, total_tries, Case, FAR_BEGIN, FAR_TURNS, FAR_WAIT};
 use crate::sheet::{Bus, LAST_TICK};
 use crate::{admit, check_sheet, one_stream, replay, step, Answer, NOT_BEGUN};
+
+pub use tables::gather_tables;
 
 /// Counts by name, one line each when written out.
 #[derive(Default)]

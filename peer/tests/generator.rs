@@ -10,26 +10,14 @@ use peer::{admit, one_stream, replay, step};
 
 #[test]
 fn a_case_depends_on_seed_and_index_alone() {
-    let first: Vec<_> = (0..50).map(|index| case(5, index)).collect();
-    for index in (0..50).rev() {
-        assert_eq!(case(5, index as u64), first[index]);
-    }
-    let other = (0..50).filter(|&index| case(6, index) == first[index as usize]);
-    assert!(other.count() < 5);
-    let shifted = (0..49).filter(|&index| first[index] == first[index + 1]);
-    assert!(shifted.count() < 5);
+    assert_depends_on_seed_and_index_alone(case, 4);
 }
 
 /// Shares of 5,000 cases, a good deal below what is usual.
 #[test]
 fn cases_spread_over_all_answers() {
     let figures = gather(2, 5_000);
-    let least = |names: &[&str], share: u64| {
-        for name in names {
-            let count = figures.count(name);
-            assert!(count >= share, "{name}: {count} of at least {share}");
-        }
-    };
+    let least = |names: &[&str], share: u64| least(&figures, names, share);
     least(&["sheet admitted with streams"], 1_250);
     least(&["one stream 0, J 1", "one stream 0, J 2 or more"], 500);
     least(&["one stream 0, J 10 to 999", "one stream 7"], 50);

@@ -20,7 +20,8 @@
 //! ```
 //!
 //! Sheets and logs are tables of words, laid out as the repository's README
-//! says. Every function takes any tables: what is wrong with them comes back
+//! says; [`write_sheet`] makes a sheet, so that nobody has to lay one out by
+//! hand. Every function takes any tables: what is wrong with them comes back
 //! as a [`Refusal`] with a [`Reason`], a place and a sentence, and then no lent
 //! word has changed. Of all refusals that apply, the first in the order that
 //! stands at each function is given. [`raw`] has the same functions with the
@@ -68,6 +69,25 @@ pub const MAX_STREAMS: usize = 256;
 /// ```
 pub const MAX_RELEASES: usize = 4096;
 
+/// The words of the longest sheet: a room of so many words is long enough for
+/// [`write_sheet`].
+///
+/// ```
+/// use wistorvan::{write_sheet, Tables, LONGEST_SHEET, MAX_STREAMS};
+///
+/// let most = Tables {
+///     message_ticks: 5,
+///     slot_ticks: 1,
+///     counts: &[16; 16],
+///     budgets: &[16; 16],
+///     periods: &[10_000; MAX_STREAMS],
+///     deadlines: &[10_000; MAX_STREAMS],
+/// };
+/// let mut room = [0; LONGEST_SHEET];
+/// assert_eq!(write_sheet(&most, &mut room).unwrap().sheet.len(), LONGEST_SHEET);
+/// ```
+pub const LONGEST_SHEET: usize = 563;
+
 /// The begin tick that a word of a room stands for, if the release has begun.
 ///
 /// ```
@@ -113,6 +133,44 @@ impl Bus {
         node: 1,
         turns: 0,
     };
+}
+
+/// What a sheet is made from: the bus and its nodes and streams, in tables.
+///
+/// ```
+/// use wistorvan::Tables;
+///
+/// // Two nodes. Node 1 has two streams and a budget of 1, node 2 one stream
+/// // and a budget of 2. A message takes 5 ticks, a protocol slot 1.
+/// let line = Tables {
+///     message_ticks: 5,
+///     slot_ticks: 1,
+///     counts: &[2, 1],
+///     budgets: &[1, 2],
+///     periods: &[40, 60, 30],
+///     deadlines: &[40, 60, 30],
+/// };
+/// // The same line with a shorter deadline of node 1's second stream.
+/// let changed = Tables { deadlines: &[40, 37, 30], ..line };
+/// assert_eq!(changed.periods, line.periods);
+/// ```
+#[derive(Clone, Copy, PartialEq, Eq, Hash, Debug)]
+pub struct Tables<'t> {
+    /// TMS, the ticks of a message: 1 to 10,000.
+    pub message_ticks: u32,
+    /// TPR, the ticks of a protocol slot: 1 to 10,000.
+    pub slot_ticks: u32,
+    /// The number of streams of each node, 0 to 16. There are as many nodes
+    /// as there are words here, 1 to 16.
+    pub counts: &'t [u32],
+    /// The budget of each node, 1 to 16: as many words as `counts`.
+    pub budgets: &'t [u32],
+    /// The least period of each stream, node by node, 1 to 1,000,000,000: as
+    /// many words as the sum of `counts`.
+    pub periods: &'t [u32],
+    /// The deadline of each stream, 1 to its period: as many words as
+    /// `periods`.
+    pub deadlines: &'t [u32],
 }
 
 /// What [`one_stream`] answers.
@@ -184,6 +242,32 @@ pub struct Step {
     pub taken: u32,
     /// The tick at which the next turn starts.
     pub next: u32,
+}
+
+/// What [`write_sheet`] answers.
+///
+/// ```
+/// use wistorvan::{write_sheet, Tables};
+///
+/// // A node without streams.
+/// let tables = Tables {
+///     message_ticks: 5,
+///     slot_ticks: 1,
+///     counts: &[0],
+///     budgets: &[2],
+///     periods: &[],
+///     deadlines: &[],
+/// };
+/// let mut room = [0; 6];
+/// let written = write_sheet(&tables, &mut room).unwrap();
+/// assert_eq!((written.sheet, written.cycle), (&[1, 5, 1, 6, 0, 2][..], 11));
+/// ```
+#[derive(Clone, Copy, PartialEq, Eq, Hash, Debug)]
+pub struct Written<'r> {
+    /// The sheet: the first words of the lent room.
+    pub sheet: &'r [u32],
+    /// C, the full cycle in ticks.
+    pub cycle: u32,
 }
 
 /// Whether a sheet is valid.
@@ -323,4 +407,46 @@ pub fn replay<'r>(
 pub fn step(sheet: &[u32], log: &[u32], bus: &mut Bus, room: &mut [u32]) -> Result<Step, Refusal> {
     let (taken, next) = raw::step(sheet, log, bus, room).accepted()?;
     Ok(Step { taken, next })
+}
+
+/// Makes a sheet from tables. It goes to the room's first words, the rest of
+/// which stays; [`LONGEST_SHEET`] words are always enough. What is made is
+/// valid; whether its streams are in time is for [`admit`] to say.
+///
+/// # Errors
+///
+/// In this order: [`Reason::BadNodeCount`], [`Reason::BadDuration`],
+/// [`Reason::BadContents`], [`Reason::BadStream`], [`Reason::RoomTooShort`].
+///
+/// ```
+/// use wistorvan::{admit, write_sheet, Reason, Tables, LONGEST_SHEET, MAX_STREAMS};
+///
+/// # fn main() -> Result<(), wistorvan::Refusal> {
+/// let line = Tables {
+///     message_ticks: 5,
+///     slot_ticks: 1,
+///     counts: &[2, 1],
+///     budgets: &[1, 2],
+///     periods: &[40, 60, 30],
+///     deadlines: &[40, 60, 30],
+/// };
+/// let mut room = [0; LONGEST_SHEET];
+/// let written = write_sheet(&line, &mut room)?;
+/// assert_eq!(written.sheet, [2, 5, 1, 9, 2, 1, 13, 1, 2, 40, 40, 60, 60, 30, 30]);
+/// assert_eq!(written.cycle, 17);
+/// assert_eq!(admit(written.sheet, &mut [0; MAX_STREAMS])?.waits, [16, 33, 16]);
+///
+/// // A deadline longer than its period: stream 2 of node 1.
+/// let wrong = Tables { deadlines: &[40, 61, 30], ..line };
+/// let refusal = write_sheet(&wrong, &mut room).unwrap_err();
+/// assert_eq!((refusal.reason(), refusal.place()), (Reason::BadStream, (1, 2)));
+/// # Ok(())
+/// # }
+/// ```
+pub fn write_sheet<'r>(tables: &Tables<'_>, room: &'r mut [u32]) -> Result<Written<'r>, Refusal> {
+    let (words, cycle) = raw::write_sheet(tables, room).accepted()?;
+    Ok(Written {
+        sheet: &room[..words as usize],
+        cycle,
+    })
 }

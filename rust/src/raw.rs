@@ -9,7 +9,7 @@
 //! source; tests/declarations.rs compares their text with it. The library asks
 //! nothing of its caller, so there is nothing to test before a call.
 
-use crate::{Bus, Refusal};
+use crate::{Bus, Refusal, Tables};
 
 /// Three numbers. Number 0 is success; any other is a refusal, and the two
 /// after it are its place.
@@ -73,6 +73,20 @@ mod linked {
             log: *const u32,
             log_words: usize,
             bus: *mut Bus,
+            room: *mut u32,
+            room_words: usize,
+        ) -> Answer;
+        pub fn wistorvan_write_sheet(
+            message_ticks: u32,
+            slot_ticks: u32,
+            counts: *const u32,
+            counts_words: usize,
+            budgets: *const u32,
+            budgets_words: usize,
+            periods: *const u32,
+            periods_words: usize,
+            deadlines: *const u32,
+            deadlines_words: usize,
             room: *mut u32,
             room_words: usize,
         ) -> Answer;
@@ -162,6 +176,45 @@ pub fn step(sheet: &[u32], log: &[u32], bus: &mut Bus, room: &mut [u32]) -> Answ
             log.as_ptr(),
             log.len(),
             bus,
+            room.as_mut_ptr(),
+            room.len(),
+        )
+    }
+}
+
+/// [`crate::write_sheet`]: the words written and the full cycle; the sheet in
+/// the room's first words.
+///
+/// ```
+/// use wistorvan::{raw, Tables};
+///
+/// let tables = Tables {
+///     message_ticks: 5,
+///     slot_ticks: 1,
+///     counts: &[1],
+///     budgets: &[1],
+///     periods: &[10],
+///     deadlines: &[9],
+/// };
+/// let mut room = [0; 8];
+/// let answer = raw::write_sheet(&tables, &mut room);
+/// assert_eq!((answer.number, answer.second, answer.third), (0, 8, 6));
+/// assert_eq!(room, [1, 5, 1, 6, 1, 1, 10, 9]);
+/// ```
+#[must_use]
+pub fn write_sheet(tables: &Tables<'_>, room: &mut [u32]) -> Answer {
+    unsafe {
+        linked::wistorvan_write_sheet(
+            tables.message_ticks,
+            tables.slot_ticks,
+            tables.counts.as_ptr(),
+            tables.counts.len(),
+            tables.budgets.as_ptr(),
+            tables.budgets.len(),
+            tables.periods.as_ptr(),
+            tables.periods.len(),
+            tables.deadlines.as_ptr(),
+            tables.deadlines.len(),
             room.as_mut_ptr(),
             room.len(),
         )

@@ -29,16 +29,19 @@ pub enum Reason {
     /// 3: TMS or TPR, the duration of a message or of a protocol slot in
     /// ticks, is not 1 to 10,000. Place 0, 0.
     BadDuration,
-    /// 4: the contents. First, the sheet has fewer than 3 + 3n words: place
+    /// 4: the contents. First, the sheet has fewer than 3 + 3n words, or the
+    /// tables of budgets and counts (write sheet) differ in length: place
     /// 0, 0. Then, node by node, a row has a wrong place of the body, more
     /// than 16 streams or a budget that is not 1 to 16: place node, 0. Then,
-    /// the total length is wrong: place 0, 0.
+    /// the total length is wrong, or the tables of periods and deadlines
+    /// (write sheet) do not have a word for each stream counted: place 0, 0.
     BadContents,
     /// 5: a period is not 1 to 1,000,000,000 or a deadline not 1 to its
-    /// period, first in sheet order. Place node, stream.
+    /// period, on the sheet or in the tables (write sheet), first in sheet
+    /// order. Place node, stream.
     BadStream,
     /// 6: the room is shorter than one word a stream (admit) or a release
-    /// (replay, step). Place 0, 0.
+    /// (replay, step), or than the sheet (write sheet). Place 0, 0.
     RoomTooShort,
     /// 7: a stream is late: the first in sheet order (admit) or the asked one
     /// (one stream). Place node, stream.
@@ -140,10 +143,10 @@ impl Refusal {
             Reason::SheetTooShort => write!(f, "the sheet has fewer than 3 words"),
             Reason::BadNodeCount => write!(f, "the number of nodes is not 1 to 16"),
             Reason::BadDuration => write!(f, "TMS or TPR is not 1 to 10,000"),
-            Reason::BadContents if a == 0 => write!(f, "the sheet's length is wrong"),
+            Reason::BadContents if a == 0 => write!(f, "the sheet or a table has a wrong length"),
             Reason::BadContents => write!(f, "node {a}: wrong place, stream count or budget"),
             Reason::BadStream => write!(f, "stream {b} of node {a}: wrong period or deadline"),
-            Reason::RoomTooShort => write!(f, "the room has fewer words than streams or releases"),
+            Reason::RoomTooShort => write!(f, "the room is too short for waits, begins or sheet"),
             Reason::Late => write!(f, "stream {b} of node {a} would be late"),
             Reason::NoSuchStream => write!(f, "the sheet has no stream {b} of node {a}"),
             Reason::BadLog if b == 0 => write!(f, "the log's length is odd or over 4,096 releases"),

@@ -1,12 +1,21 @@
-//! What the functions answer about sheet A, and every refusal, with its place
-//! and its sentence.
+//! What the functions answer about sheet A and its tables, and every refusal,
+//! with its place and its sentence.
 
 use std::error::Error;
 
-use wistorvan::{admit, check_sheet, one_stream, raw, replay, step};
-use wistorvan::{Bus, ListedWait, Reason, Refusal, Step, MAX_RELEASES, MAX_STREAMS, NOT_BEGUN};
+use wistorvan::{admit, check_sheet, one_stream, raw, replay, step, write_sheet};
+use wistorvan::{Bus, ListedWait, Reason, Refusal, Step, Tables, Written};
+use wistorvan::{LONGEST_SHEET, MAX_RELEASES, MAX_STREAMS, NOT_BEGUN};
 
 const SHEET_A: [u32; 15] = [2, 5, 1, 9, 2, 1, 13, 1, 2, 40, 40, 60, 60, 30, 30];
+const TABLES_A: Tables = Tables {
+    message_ticks: 5,
+    slot_ticks: 1,
+    counts: &[2, 1],
+    budgets: &[1, 2],
+    periods: &[40, 60, 30],
+    deadlines: &[40, 60, 30],
+};
 const LOG: [u32; 6] = [0, 1, 0, 2, 1, 3];
 const TOO_LARGE: u32 = 1_000_000_001;
 
@@ -89,6 +98,38 @@ fn one_turn_after_another() {
 }
 
 #[test]
+fn sheet_a_from_its_tables() {
+    let mut room = [7; 17];
+    let written = write_sheet(&TABLES_A, &mut room).unwrap();
+    assert_eq!((written.sheet, written.cycle), (&SHEET_A[..], 17));
+    assert_eq!(room[..15], SHEET_A);
+    assert_eq!(room[15..], [7, 7]);
+}
+
+#[test]
+fn each_word_of_the_tables_in_its_place() {
+    // All words differ, node 2 has no stream, and the room is just long enough.
+    let tables = Tables {
+        message_ticks: 8,
+        slot_ticks: 2,
+        counts: &[1, 0, 3],
+        budgets: &[4, 5, 7],
+        periods: &[100, 200, 300, 400],
+        deadlines: &[90, 150, 260, 380],
+    };
+    let sheet = [
+        3, 8, 2, 12, 1, 4, 14, 0, 5, 14, 3, 7, 100, 90, 200, 150, 300, 260, 400, 380,
+    ];
+    let mut room = [0; 20];
+    let expected = Written {
+        sheet: &sheet,
+        cycle: 16 * 8 + 3 * 2,
+    };
+    assert_eq!(write_sheet(&tables, &mut room), Ok(expected));
+    assert_eq!(check_sheet(&room), Ok(()));
+}
+
+#[test]
 fn the_plain_numbers() {
     let numbers = |a: raw::Answer| (a.number, a.second, a.third);
     let mut room = [7; 4];
@@ -104,9 +145,13 @@ fn the_plain_numbers() {
     let answer = raw::step(&SHEET_A, &LOG, &mut bus, &mut room);
     assert_eq!(numbers(answer), (0, 1, 6));
     assert_eq!((bus.tick, bus.node, bus.turns), (6, 2, 1));
+    let mut room = [7; 16];
+    let answer = raw::write_sheet(&TABLES_A, &mut room);
+    assert_eq!(numbers(answer), (0, 15, 17));
+    assert_eq!((&room[..15], room[15]), (&SHEET_A[..], 7));
 }
 
-/// Every function gives the refusals of a sheet before its own.
+/// Every function that takes a sheet gives its refusals before its own.
 #[track_caller]
 fn sheet_refusal(sheet: &[u32]) -> Refusal {
     let refusal = check_sheet(sheet).unwrap_err();
@@ -138,7 +183,7 @@ fn refusals_of_a_header() {
 
 #[test]
 fn refusals_of_contents_and_bodies() {
-    let why = "the sheet's length is wrong";
+    let why = "the sheet or a table has a wrong length";
     for length in [8, 14] {
         let refusal = sheet_refusal(&SHEET_A[..length]);
         assert_refusal(refusal, Reason::BadContents, 4, (0, 0), why);
@@ -184,13 +229,16 @@ fn a_stream_that_is_not_there() {
 
 #[test]
 fn a_room_too_short() {
-    let why = "the room has fewer words than streams or releases";
+    let why = "the room is too short for waits, begins or sheet";
     let (mut room, mut bus) = ([NOT_BEGUN; 2], Bus::START);
     let refusal = admit(&SHEET_A, &mut room).unwrap_err();
     assert_refusal(refusal, Reason::RoomTooShort, 6, (0, 0), why);
     assert_eq!(replay(&SHEET_A, &LOG, 40, &mut room), Err(refusal));
     assert_eq!(step(&SHEET_A, &LOG, &mut bus, &mut room), Err(refusal));
     assert_eq!((room, bus), ([NOT_BEGUN; 2], Bus::START));
+    let mut room = [7; SHEET_A.len() - 1];
+    assert_eq!(write_sheet(&TABLES_A, &mut room), Err(refusal));
+    assert_eq!(room, [7; SHEET_A.len() - 1]);
 }
 
 /// The replay and the step refuse a log alike, before all but the sheet.
@@ -241,11 +289,139 @@ fn a_record_off_the_bus() {
     }
 }
 
+/// What the writer refuses, whatever the room is; it changes no word.
+#[track_caller]
+fn tables_refusal(tables: Tables) -> Refusal {
+    let mut room = [7; LONGEST_SHEET];
+    let refusal = write_sheet(&tables, &mut room).unwrap_err();
+    assert_eq!(room, [7; LONGEST_SHEET]);
+    assert_eq!(write_sheet(&tables, &mut []), Err(refusal));
+    refusal
+}
+
+/// Tables with everything wrong but the number of nodes. The tests below put
+/// one thing after the other right, in the order of the refusals.
+const ALL_WRONG: Tables = Tables {
+    message_ticks: 0,
+    slot_ticks: 0,
+    counts: &[17, 17],
+    budgets: &[0],
+    periods: &[0],
+    deadlines: &[0, 0],
+};
+
 #[test]
-fn the_longest_rooms() {
+fn refusals_of_the_nodes_and_ticks_of_tables() {
+    let why = "the number of nodes is not 1 to 16";
+    for counts in [&[][..], &[17; 17]] {
+        let refusal = tables_refusal(Tables {
+            counts,
+            ..ALL_WRONG
+        });
+        assert_refusal(refusal, Reason::BadNodeCount, 2, (0, 0), why);
+    }
+    let why = "TMS or TPR is not 1 to 10,000";
+    for (message_ticks, slot_ticks) in [(0, 1), (10_001, 1), (5, 0), (5, 10_001)] {
+        let refusal = tables_refusal(Tables {
+            message_ticks,
+            slot_ticks,
+            ..ALL_WRONG
+        });
+        assert_refusal(refusal, Reason::BadDuration, 3, (0, 0), why);
+    }
+}
+
+/// Tables whose contents or streams are wrong, on sheet A's bus.
+fn on_bus_a<'t>(rows: [&'t [u32]; 2], streams: [&'t [u32]; 2]) -> Tables<'t> {
+    let ([counts, budgets], [periods, deadlines]) = (rows, streams);
+    Tables {
+        counts,
+        budgets,
+        periods,
+        deadlines,
+        ..TABLES_A
+    }
+}
+
+#[test]
+fn refusals_of_the_rows_of_tables() {
+    let wrong = [&[0][..], &[0, 0]];
+    let why = "the sheet or a table has a wrong length";
+    for budgets in [&[][..], &[0], &[0; 3]] {
+        let refusal = tables_refusal(on_bus_a([&[17, 17], budgets], wrong));
+        assert_refusal(refusal, Reason::BadContents, 4, (0, 0), why);
+    }
+    for (counts, budgets, node) in [
+        ([17, 17], [1, 0], 1),
+        ([2, 17], [0, 2], 1),
+        ([2, 17], [17, 2], 1),
+        ([2, 17], [1, 2], 2),
+        ([2, 1], [1, 0], 2),
+        ([2, 1], [1, u32::MAX], 2),
+        ([16, u32::MAX], [16, 2], 2),
+    ] {
+        let refusal = tables_refusal(on_bus_a([&counts, &budgets], wrong));
+        let why = format!("node {node}: wrong place, stream count or budget");
+        assert_refusal(refusal, Reason::BadContents, 4, (node, 0), &why);
+    }
+}
+
+#[test]
+fn refusals_of_the_streams_of_tables() {
+    let rows = [TABLES_A.counts, TABLES_A.budgets];
+    let why = "the sheet or a table has a wrong length";
+    let (two, three, four) = (&[0; 2][..], &[0; 3][..], &[0; 4][..]);
+    for streams in [
+        [two, three],
+        [three, two],
+        [four, three],
+        [three, four],
+        [two, two],
+        [&[], &[]],
+    ] {
+        let refusal = tables_refusal(on_bus_a(rows, streams));
+        assert_refusal(refusal, Reason::BadContents, 4, (0, 0), why);
+    }
+    for (periods, deadlines, (node, stream)) in [
+        ([0, 60, 30], [0, 60, 30], (1, 1)),
+        ([40, TOO_LARGE, 0], [40, 60, 30], (1, 2)),
+        ([40, 60, 30], [40, 61, 31], (1, 2)),
+        ([40, 60, 30], [40, 0, 0], (1, 2)),
+        ([40, 60, 30], [40, 60, 31], (2, 1)),
+    ] {
+        let refusal = tables_refusal(on_bus_a(rows, [&periods, &deadlines]));
+        let why = format!("stream {stream} of node {node}: wrong period or deadline");
+        assert_refusal(refusal, Reason::BadStream, 5, (node, stream), &why);
+    }
+}
+
+/// Sixteen nodes of sixteen streams, with the longest periods and deadlines.
+fn longest_sheet() -> Vec<u32> {
     let rows = (0..16).flat_map(|node| [51 + 32 * node, 16, 16]);
     let bodies = [1_000_000_000; 2 * MAX_STREAMS];
-    let sheet: Vec<u32> = [16, 1, 1].into_iter().chain(rows).chain(bodies).collect();
+    [16, 1, 1].into_iter().chain(rows).chain(bodies).collect()
+}
+
+#[test]
+fn the_longest_sheet() {
+    let most = Tables {
+        message_ticks: 1,
+        slot_ticks: 1,
+        counts: &[16; 16],
+        budgets: &[16; 16],
+        periods: &[1_000_000_000; MAX_STREAMS],
+        deadlines: &[1_000_000_000; MAX_STREAMS],
+    };
+    let mut room = [0; LONGEST_SHEET];
+    let written = write_sheet(&most, &mut room).unwrap();
+    assert_eq!((written.sheet, written.cycle), (&longest_sheet()[..], 272));
+    let refusal = write_sheet(&most, &mut room[1..]).unwrap_err();
+    assert_eq!(refusal.reason(), Reason::RoomTooShort);
+}
+
+#[test]
+fn the_longest_rooms() {
+    let sheet = longest_sheet();
     let mut room = [0; MAX_STREAMS];
     let waits = admit(&sheet, &mut room).unwrap().waits;
     // Full cycle 16 x 16 + 16, and the fifteen of its node in front of the last.

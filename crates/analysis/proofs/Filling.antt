@@ -7,7 +7,6 @@ use mathlib.Core.Path.{_≡_, sym, ap, _∙_}
 use mathlib.Core.List.{List, [], _∷_, _++_, append-nil, append-assoc}
 use lib.ListN.{length, getD, take, drop, set, length-drop}
 use lib.Seq.{length-take-le, take-length, take-suc, take-suc-set, take-set-le, take-append-le, take-append-add, append-snoc}
-use Rattle.model.proofs.Answers.Buffer.{write-next}
 
 -- The next value is stored after those that are filled in.
 pub fill-one : (xs : List ℕ) (n v : ℕ) {left left' whole : List ℕ}
@@ -36,24 +35,6 @@ fill-part xs part after left' n count inside within filled next same =
     let front = rw (length-take-le n xs inside) at (take-append-add (take n xs) (part ++ after) count) in
     rw (front, take-append-le count part after within, filled, append-assoc) (rw next at same)
 
--- The part of a buffer from a place on has the rest of its words.
-pub part-length : (xs : List ℕ) (n : ℕ) → length (take (length xs - n) (drop n xs)) ≡ length xs - n
-part-length xs n = length-take-le (length xs - n) (drop n xs) (rw length-drop (le-refl _))
-
 -- Nothing is left: what is filled in is the whole.
 pub fill-end : (filled : List ℕ) {left whole : List ℕ} → left ≡ [] → filled ++ left ≡ whole → filled ≡ whole
 fill-end filled none same = sym (append-nil filled) ∙ (rw none at same)
-
--- One list written over the front of another: the next word,
-pub copy-one : (values room : List ℕ) (i : ℕ)
-    → i < length values
-    → i < length room
-    → set (take i values ++ drop i room) i (getD values i 0) ≡ take (i + 1) values ++ drop (i + 1) room
-copy-one values room i inside free =
-    rw (add-one i, take-suc values i 0 inside, ← add-one i)
-    (write-next (take i values) room i (getD values i 0) (length-take-le i values (le-of-lt inside)) free)
-
--- and all of them.
-pub copy-end : (values room : List ℕ)
-    → take (length values) values ++ drop (length values) room ≡ values ++ drop (length values) room
-copy-end values room = ap (λ front. front ++ drop (length values) room) (take-length values)

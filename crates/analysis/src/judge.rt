@@ -68,18 +68,6 @@ fn judge_nodes(sheet: &[u32], n: u32, cycle: u32, waits: &mut [u32]) -> Answer
     }
 }
 
-// The values in the room's first words, and the rest as it was.
-fn copy_in(values: &[u32], room: &mut [u32])
-    requires { ⌜ length (now values) ≤ length (now room) ⌝ }
-    ensures { λ r. ⌜ now (room .exit) ≡ now (values .entry) ++ drop (length (now (values .entry))) (now (room .entry)) ⌝ }
-{
-    let mut i: usize = 0;
-    while i < values.len() {
-        room[i] = values[i];
-        i += 1;
-    }
-}
-
 // The first answer if it refuses, and success with its two numbers otherwise.
 fn or_success(refusal: Answer, second: u32, third: u32) -> Answer
     ensures { λ r. ⌜ r ≡ (refusal orElse success second third) ⌝ }
@@ -100,7 +88,7 @@ fn write_waits(answer: Answer, values: &[u32], room: &mut [u32])
     ensures { λ _. ⌜ now (room .exit) ≡ bufferAfter answer (now (values .entry)) (now (room .entry)) ⌝ }
 {
     if answer.number == 0 {
-        copy_in(values, room);
+        fill::put(values, room);
     }
 }
 

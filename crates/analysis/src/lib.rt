@@ -9,13 +9,13 @@ ghost use Rattle.model.specs.Answers.{verdictAnswer, oneStreamAnswer, admitAnsw
 ghost use Rattle.model.specs.Demand.{Judged, AllJudged};
 use cycle::cycle_of;
 use judge::judge_sheet;
-use layout::is_outside;
-use layout::refuse_if;
 use layout::stream_count;
 use layout::streams_up_to;
 use layout::word_at;
 use model::Answer;
 use model::Verdict;
+use range::is_outside;
+use range::refuse_if;
 use sheet::check_sheet;
 use wait::verdict_on;
 

@@ -1,12 +1,10 @@
-// Where the words of a sheet stand: accessors over any words, which read 0 past the end, as the definitions do; and a check's two
-// parts, a range and a refusal. None asks anything of its caller. No other crate knows how many words a row or a stream has.
+// Where the words of a sheet stand: accessors over any words, which read 0 past the end, as the definitions do. None asks anything of
+// its caller. Only this crate and `fill`, which puts the words there, know how many words a row or a stream has.
 ghost use mathlib.Core.Path.{_≡_};
 ghost use Prim.Native.Nat.{pred, _+_, _*_, _/_, _<_, _^_};
 ghost use Rattle.model.specs.Limits.{streamWords};
-ghost use Rattle.model.specs.Refusal.{refuse, refuseIf, outside};
-ghost use Rattle.model.specs.Sheet.{word, rowAt, place, streamCount, budget, streamsUpTo, contentsWords};
+ghost use Rattle.model.specs.Sheet.{word, rowAt, place, streamCount, budget, streamsUpTo, firstBodyAt, contentsWords};
 ghost use Rattle.model.specs.Analysis.{streamIn, streamOf};
-use model::Answer;
 use model::Stream;
 
 // A word as an index.
@@ -114,35 +112,16 @@ pub fn streams_up_to(sheet: &[u32], k: u32) -> usize
     sum
 }
 
-// The words before the first body.
+// Where the first body of n nodes stands.
+pub fn first_body_at(n: u32) -> usize
+    ensures { λ r. ⌜ (r ≡ firstBodyAt n) × (r < 2 ^ 34) ⌝ }
+{
+    3 + 3 * wide(n)
+}
+
+// The words before the first body of a sheet.
 pub fn contents_words(sheet: &[u32]) -> usize
     ensures { λ r. ⌜ (r ≡ contentsWords (now (sheet .entry))) × (r < 2 ^ 34) ⌝ }
 {
-    3 + 3 * wide(word_at(sheet, 0))
-}
-
-// A number out of range.
-pub fn is_outside(least: u32, most: u32, x: u32) -> bool
-    ensures { λ r. ⌜ r ≡ outside least most x ⌝ }
-{
-    if x < least { true } else { most < x }
-}
-
-// The refusal where the test holds, and no reason to refuse otherwise.
-pub fn refuse_if(test: bool, number: u32, second: u32, third: u32) -> Answer
-    ensures { λ r. ⌜ r ≡ refuseIf test (refuse number second third) ⌝ }
-{
-    if test {
-        Answer {
-            number,
-            second,
-            third,
-        }
-    } else {
-        Answer {
-            number: 0,
-            second: 0,
-            third: 0,
-        }
-    }
+    first_body_at(word_at(sheet, 0))
 }

@@ -9,9 +9,9 @@ ghost use Rattle.model.specs.Sheet.{nodes, sheetRefusal};
 ghost use Rattle.model.specs.Protocol.{releases};
 ghost use Rattle.model.specs.Answers.{roomRefusal, logRefusal, stepRefusal};
 ghost use Rattle.log.specs.Replay.{replayRefusal};
-use layout::refuse_if;
 use model::Answer;
 use model::Bus;
+use range::refuse_if;
 use reader::check_log;
 
 mod reader; // reader.rt: refusal 9
@@ -26,7 +26,7 @@ fn record_is_wrong(sheet: &[u32], bus: Bus) -> bool
     if 1000000000 < bus.turns {
         return true;
     }
-    layout::is_outside(1, layout::word_at(sheet, 0), bus.node)
+    range::is_outside(1, layout::word_at(sheet, 0), bus.node)
 }
 
 // The refusals of an entry that is lent a log and a buffer of so many words: 1 to 5, 9, then its own, then 6.

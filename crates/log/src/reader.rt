@@ -8,8 +8,8 @@ ghost use Rattle.model.specs.Refusal.{outside, firstOf};
 ghost use Rattle.model.specs.Sheet.{totalStreams};
 ghost use Rattle.model.specs.Protocol.{releases, releaseTick, releaseStream};
 ghost use Rattle.model.specs.Answers.{tickBefore, releaseRefusal, logRefusal};
-use layout::refuse_if;
 use model::Answer;
+use range::refuse_if;
 
 // A tick too large, a falling tick or a stream unknown in release i, counted from 0, where `before` is the tick before it.
 fn release_is_wrong(log: &[u32], i: usize, before: u32, streams: usize) -> bool

@@ -2,16 +2,17 @@
 -- for every input. Rules 5.5, 6 and 7. Assumes nothing.
 use Prim.Native.Nat.{ℕ, zero, suc, pred, _%_}
 use mathlib.Core.Bool.{cond, _||_, not}
-use mathlib.Core.List.{List, [], _∷_, _++_}
+use mathlib.Core.List.{List, _++_}
 use lib.ListN.{length, drop}
 use lib.Dec.{ltb, eqb}
+use Rattle.theory.specs.Listing.{valuesFrom}
 use Rattle.model.specs.declared.Answer.{Answer}
 use Rattle.model.specs.declared.Bus.{Bus}
 use Rattle.model.specs.declared.Verdict.{Verdict}
 use Rattle.model.specs.declared.Verdict.the-variants.{Late, Listed}
 use Rattle.model.specs.Limits.{releaseWords, maxReleases, maxTime}
 use Rattle.model.specs.Refusal.{success, refuse, accepted, refuseIf, _orElse_, firstOf, outside}
-use Rattle.model.specs.Sheet.{nodes, streamCount, totalStreams, cycle, sheetRefusal}
+use Rattle.model.specs.Sheet.{nodes, streamCount, totalStreams, inSheetOrder, cycle, sheetRefusal}
 use Rattle.model.specs.Analysis.{verdictOf}
 use Rattle.model.specs.Protocol.{releases, releaseTick, releaseStream, serveTurn, nextBus, State, replayed}
 
@@ -73,18 +74,12 @@ waitWord Late = 0
 waitWord (Listed wait cycles) = wait
 
 -- The listed waits of node k's streams from j on, `count` of them.
-unfoldable pub waitsFrom : List ℕ → ℕ → ℕ → ℕ → List ℕ
-waitsFrom s k j zero = []
-waitsFrom s k j (suc count) = waitWord (verdictOf s k j) ∷ waitsFrom s k (suc j) count
+abbrev pub waitsFrom : List ℕ → ℕ → ℕ → ℕ → List ℕ
+waitsFrom s k j count = valuesFrom (λ i. waitWord (verdictOf s k i)) j count
 
--- The listed waits of the nodes from k on, `count` of them, "in sheet order".
-unfoldable pub nodeWaitsFrom : List ℕ → ℕ → ℕ → List ℕ
-nodeWaitsFrom s k zero = []
-nodeWaitsFrom s k (suc count) = waitsFrom s k 1 (streamCount s k) ++ nodeWaitsFrom s (suc k) count
-
--- The listed waits of the whole sheet.
+-- The listed waits of the whole sheet, "in sheet order".
 abbrev pub listedWaits : List ℕ → List ℕ
-listedWaits s = nodeWaitsFrom s 1 (nodes s)
+listedWaits s = inSheetOrder s (λ k j. waitWord (verdictOf s k j))
 
 -- What a buffer holds after an entry that writes `values` into its first words: "the rest unchanged", and "any refusal
 -- changes no lent word".

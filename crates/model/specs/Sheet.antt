@@ -7,6 +7,7 @@ use mathlib.Core.List.{List}
 use lib.ListN.{length, getD}
 use lib.Dec.{ltb, eqb}
 use Rattle.theory.specs.Sum.{sumTo}
+use Rattle.theory.specs.Listing.{valuesFrom, joinedFrom}
 use Rattle.model.specs.declared.Answer.{Answer}
 use Rattle.model.specs.Limits.{headerWords, rowWords, streamWords, maxNodes, maxStreams, maxBudget, maxSlotTicks, maxTime}
 use Rattle.model.specs.Refusal.{refuse, refuseIf, _orElse_, firstOf, outside}
@@ -59,17 +60,30 @@ totalStreams s = streamsUpTo s (nodes s)
 abbrev pub runningNumber : List ℕ → ℕ → ℕ → ℕ
 runningNumber s k j = streamsBefore s k + j
 
--- The words before the first body: header and contents.
-abbrev pub contentsWords : List ℕ → ℕ
-contentsWords s = headerWords + rowWords * nodes s
+-- A value for each stream of the sheet, "in sheet order": those of node 1's streams, then of node 2's, and so on.
+abbrev pub inSheetOrder : List ℕ → (ℕ → ℕ → ℕ) → List ℕ
+inSheetOrder s value = joinedFrom (λ k. valuesFrom (value k) 1 (streamCount s k)) 1 (nodes s)
 
--- The place that node k's body must have: "the first body is at 3 + 3n, each next one directly after the last".
+-- The words before the first body of n nodes: header and contents.
+abbrev pub firstBodyAt : ℕ → ℕ
+firstBodyAt n = headerWords + rowWords * n
+
+-- Where the body stands that so many streams come before, of n nodes: "the first body is at 3 + 3n, each next one directly after
+-- the last". After the last one it is where "the sheet ends".
+abbrev pub bodyAt : ℕ → ℕ → ℕ
+bodyAt n before = firstBodyAt n + streamWords * before
+
+-- The words before the first body of the sheet.
+abbrev pub contentsWords : List ℕ → ℕ
+contentsWords s = firstBodyAt (nodes s)
+
+-- The place that node k's body must have.
 abbrev pub bodyPlace : List ℕ → ℕ → ℕ
-bodyPlace s k = contentsWords s + streamWords * streamsBefore s k
+bodyPlace s k = bodyAt (nodes s) (streamsBefore s k)
 
 -- The length that the sheet must have: "the sheet ends with the last body".
 abbrev pub sheetLength : List ℕ → ℕ
-sheetLength s = contentsWords s + streamWords * totalStreams s
+sheetLength s = bodyAt (nodes s) (totalStreams s)
 
 -- Where stream j of node k stands.
 abbrev pub streamAt : List ℕ → ℕ → ℕ → ℕ
@@ -88,8 +102,12 @@ abbrev pub budgetsUpTo : List ℕ → ℕ → ℕ
 budgetsUpTo s k = sumTo (budget s) k
 
 -- "Full cycle C = (sum of all budgets) × TMS + n × TPR": the longest time for a turn of every node.
+abbrev pub fullCycle : ℕ → ℕ → ℕ → ℕ → ℕ
+fullCycle budgets message n slot = budgets * message + n * slot
+
+-- "C" of the sheet.
 unfoldable pub cycle : List ℕ → ℕ
-cycle s = budgetsUpTo s (nodes s) * messageTicks s + nodes s * slotTicks s
+cycle s = fullCycle (budgetsUpTo s (nodes s)) (messageTicks s) (nodes s) (slotTicks s)
 
 -- Stream j of node k is on the sheet.
 pub record OnSheet (s : List ℕ) (k j : ℕ) : Type 0 where
@@ -98,22 +116,29 @@ pub record OnSheet (s : List ℕ) (k j : ℕ) : Type 0 where
   pub streamFrom : 1 ≤ j
   pub streamTo : j ≤ streamCount s k
 
+-- True where TMS or TPR is out of range.
+unfoldable pub ticksOutside : ℕ → ℕ → Bool
+ticksOutside message slot = outside 1 maxSlotTicks message || outside 1 maxSlotTicks slot
+
+-- True where a node's number of streams or its budget is out of range.
+unfoldable pub countsOutside : ℕ → ℕ → Bool
+countsOutside count budget = ltb maxStreams count || outside 1 maxBudget budget
+
+-- True where a stream's period or its deadline is out of range; the deadline is "1 to the period".
+unfoldable pub timesOutside : ℕ → ℕ → Bool
+timesOutside period deadline = outside 1 maxTime period || outside 1 period deadline
+
 -- True for "a wrong place, stream count or budget" in the row of node k.
 unfoldable pub rowWrong : List ℕ → ℕ → Bool
-rowWrong s k =
-    not (eqb (place s k) (bodyPlace s k)) || ltb maxStreams (streamCount s k) || outside 1 maxBudget (budget s k)
+rowWrong s k = not (eqb (place s k) (bodyPlace s k)) || countsOutside (streamCount s k) (budget s k)
 
 -- Refusal 4 of one contents row, at "(node, 0)".
 unfoldable pub rowRefusal : List ℕ → ℕ → Answer
 rowRefusal s k = refuseIf (rowWrong s k) (refuse 4 k 0)
 
--- True for a "period or deadline out of range"; the deadline is "1 to the period".
-unfoldable pub streamWrong : List ℕ → ℕ → ℕ → Bool
-streamWrong s k j = outside 1 maxTime (period s k j) || outside 1 (period s k j) (deadline s k j)
-
--- Refusal 5 of one stream, at "node, stream".
+-- Refusal 5 of one stream, a "period or deadline out of range", at "node, stream".
 unfoldable pub streamRefusal : List ℕ → ℕ → ℕ → Answer
-streamRefusal s k j = refuseIf (streamWrong s k j) (refuse 5 k j)
+streamRefusal s k j = refuseIf (timesOutside (period s k j) (deadline s k j)) (refuse 5 k j)
 
 -- Refusal 5 of one node's streams, in order.
 unfoldable pub bodyRefusal : List ℕ → ℕ → Answer
@@ -124,7 +149,7 @@ unfoldable pub headerRefusal : List ℕ → Answer
 headerRefusal s =
     refuseIf (ltb (length s) headerWords) (refuse 1 0 0)
     orElse refuseIf (outside 1 maxNodes (nodes s)) (refuse 2 0 0)
-    orElse refuseIf (outside 1 maxSlotTicks (messageTicks s) || outside 1 maxSlotTicks (slotTicks s)) (refuse 3 0 0)
+    orElse refuseIf (ticksOutside (messageTicks s) (slotTicks s)) (refuse 3 0 0)
     orElse refuseIf (ltb (length s) (contentsWords s)) (refuse 4 0 0)
 
 -- Refusals 1 to 5, in their order: the contents "node by node", "then a wrong total length", then the bodies. Accepted for a

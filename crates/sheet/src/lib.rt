@@ -1,28 +1,17 @@
 // The sheet reader: refusals 1 to 5 with their places, for any words.
 ghost use mathlib.Core.Path.{_≡_};
 ghost use Prim.Native.Nat.{_≤_};
-ghost use mathlib.Core.Bool.{_||_};
-ghost use Rattle.model.specs.Limits.{maxNodes, maxSlotTicks};
+ghost use Rattle.model.specs.Limits.{maxNodes};
 ghost use Rattle.model.specs.Refusal.{outside, firstOf};
-ghost use Rattle.model.specs.Sheet.{word, nodes, messageTicks, slotTicks, bodyPlace, rowWrong, rowRefusal, streamWrong, streamRefusal, bodyRefusal, headerRefusal, sheetRefusal};
-use layout::refuse_if;
+ghost use Rattle.model.specs.Sheet.{word, nodes, bodyPlace, rowWrong, rowRefusal, streamRefusal, bodyRefusal, headerRefusal, sheetRefusal};
 use model::Answer;
+use range::refuse_if;
 
 // A word of the sheet out of range.
 fn word_outside(sheet: &[u32], i: usize, least: u32, most: u32) -> bool
     ensures { λ r. ⌜ r ≡ outside least most (word (now (sheet .entry)) i) ⌝ }
 {
-    layout::is_outside(least, most, layout::word_at(sheet, i))
-}
-
-// The ticks of a message or of a protocol slot out of range.
-fn ticks_outside(sheet: &[u32]) -> bool
-    ensures { λ r. ⌜ r ≡ (outside 1 maxSlotTicks (messageTicks (now (sheet .entry))) || outside 1 maxSlotTicks (slotTicks (now (sheet .entry)))) ⌝ }
-{
-    if word_outside(sheet, 1, 1, 10000) {
-        return true;
-    }
-    word_outside(sheet, 2, 1, 10000)
+    range::is_outside(least, most, layout::word_at(sheet, i))
 }
 
 // Refusals 1 to 3, and 4 for contents that are cut short.
@@ -37,7 +26,9 @@ fn check_header(sheet: &[u32]) -> Answer
     if nodes.number != 0 {
         return nodes;
     }
-    let ticks = refuse_if(ticks_outside(sheet), 3, 0, 0);
+    let message = layout::word_at(sheet, 1);
+    let slot = layout::word_at(sheet, 2);
+    let ticks = refuse_if(range::ticks_outside(message, slot), 3, 0, 0);
     if ticks.number != 0 {
         return ticks;
     }
@@ -52,10 +43,9 @@ fn row_is_wrong(sheet: &[u32], k: u32, at: usize) -> bool
     if layout::wide(layout::place_of(sheet, k)) != at {
         return true;
     }
-    if 16 < layout::stream_count(sheet, k) {
-        return true;
-    }
-    layout::is_outside(1, 16, layout::budget_of(sheet, k))
+    let count = layout::stream_count(sheet, k);
+    let budget = layout::budget_of(sheet, k);
+    range::counts_outside(count, budget)
 }
 
 // Refusal 4 of node k's row.
@@ -88,22 +78,13 @@ fn check_rows(sheet: &[u32], n: u32) -> Answer
     }
 }
 
-// A period or deadline out of range.
-fn stream_is_wrong(sheet: &[u32], k: u32, j: u32) -> bool
-    ensures { λ r. ⌜ r ≡ streamWrong (now (sheet .entry)) k j ⌝ }
-{
-    let stream = layout::stream_of(sheet, k, j);
-    if layout::is_outside(1, 1000000000, stream.period) {
-        return true;
-    }
-    layout::is_outside(1, stream.period, stream.deadline)
-}
-
 // Refusal 5 of stream j of node k.
 fn check_stream(sheet: &[u32], k: u32, j: u32) -> Answer
     ensures { λ r. ⌜ r ≡ streamRefusal (now (sheet .entry)) k j ⌝ }
 {
-    refuse_if(stream_is_wrong(sheet, k, j), 5, k, j)
+    let stream = layout::stream_of(sheet, k, j);
+    let wrong = range::times_outside(stream.period, stream.deadline);
+    refuse_if(wrong, 5, k, j)
 }
 
 // Refusal 5 of node k's streams.

@@ -4,6 +4,8 @@ pub mod Tests
 pub mod Lexicographic
 pub mod Counting
 pub mod Sums
+pub mod Listing
+pub mod Overwriting
 pub mod Places
 pub mod First
 pub mod FirstOnes

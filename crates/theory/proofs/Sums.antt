@@ -54,6 +54,10 @@ module _ (f : ℕ → ℕ) where
   unfolding sum upTo
   sumTo-next n = omega arith
 
+  -- The sum so far and the next term are the sum up to the next number.
+  pub sumTo-more : (i : ℕ) {so-far term : ℕ} → so-far ≡ sumTo f i → term ≡ f (i + 1) → so-far + term ≡ sumTo f (i + 1)
+  sumTo-more i e g = rw (add-one i) (omega (arith, e, rw (add-one i) at g, sumTo-next i))
+
   -- The sum up to a number is that before it and its own term.
   pub sumTo-split : (n : ℕ) → 1 ≤ n → sumTo f n ≡ sumTo f (pred n) + f n
   sumTo-split zero h = absurd (omega arith)
@@ -62,6 +66,10 @@ module _ (f : ℕ → ℕ) where
   -- A sum up to a later number is no smaller.
   pub sumTo-grows : (a b : ℕ) → a ≤ b → sumTo f a ≤ sumTo f b
   sumTo-grows a b h = le-ind (λ m. sumTo f a ≤ sumTo f m) (le-refl _) (λ m from ih. omega (arith, sumTo-next m)) b h
+
+  -- A sum before the last number and the next term are not more than the whole.
+  pub sumTo-room : (i n : ℕ) → i < n → sumTo f i + f (i + 1) ≤ sumTo f n
+  sumTo-room i n inside = rw (add-one i) (omega (arith, sumTo-next i, sumTo-grows (suc i) n inside))
 
 -- The numbers from 1 to n are in range,
 pub upTo-range : (n k : ℕ) → List·Memᴰ k (upTo n) → (1 ≤ k) × (k ≤ n)
@@ -78,6 +86,18 @@ pub upTo-length : (n : ℕ) → length (upTo n) ≡ n
 unfolding upTo
 upTo-length zero = refl
 upTo-length (suc n) = ap suc (upTo-length n)
+
+-- Terms that are the same have the same sum.
+pub sumTo-same : (f g : ℕ → ℕ) (n : ℕ) → ((k : ℕ) → 1 ≤ k → k ≤ n → f k ≡ g k) → sumTo f n ≡ sumTo g n
+sumTo-same f g zero same = omega (arith, sumTo-none f, sumTo-none g)
+sumTo-same f g (suc n) same =
+    omega (
+      arith,
+      sumTo-next f n,
+      sumTo-next g n,
+      same (suc n) (omega arith) (le-refl _),
+      sumTo-same f g n (λ k low high. same k low (omega arith)),
+    )
 
 -- Terms that are at most a number have at most so many times that number,
 pub sumTo-most : (f : ℕ → ℕ) (most n : ℕ) → ((k : ℕ) → 1 ≤ k → k ≤ n → f k ≤ most) → sumTo f n ≤ n * most

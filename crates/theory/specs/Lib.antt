@@ -2,3 +2,4 @@
 pub mod Sum
 pub mod Count
 pub mod Queue
+pub mod Listing

@@ -6,6 +6,8 @@ ghost use Prim.Native.Nat.{_≤_};
 ghost use Rattle.model.specs.Sheet.{totalStreams, sheetRefusal, OnSheet, Valid};
 ghost use Rattle.model.specs.Answers.{oneStreamAnswer, admitAnswer, admitBuffer, replayAnswer, replayBuffer, stepAnswer, stepBus, stepBuffer};
 ghost use Rattle.model.specs.Demand.{Judged, AllJudged, WholeReplay};
+ghost use Rattle.tables.specs.Tables.{tables};
+ghost use Rattle.tables.specs.Writing.{writeAnswer, writeBuffer, ReadsBack, WrittenAgain};
 use model::Answer;
 use model::Bus;
 
@@ -69,4 +71,32 @@ pub extern "C" fn wistorvan_step(
     let t = bus::turn(sheet, log, b, room);
     *rec = t.bus;
     t.answer
+}
+
+// "Write the sheet": a sheet made from tables, in the buffer's first words; the words written and C. What it wrote reads back as the same
+// tables; and for the tables of a valid sheet it writes that sheet again.
+#[no_mangle]
+pub extern "C" fn wistorvan_write_sheet(
+    message_ticks: u32,
+    slot_ticks: u32,
+    counts: &[u32],
+    budgets: &[u32],
+    periods: &[u32],
+    deadlines: &[u32],
+    room: &mut [u32],
+) -> Answer
+    ensures answer { λ r. ⌜ r ≡ writeAnswer (tables «message_ticks» «slot_ticks» (now (counts .entry)) (now (budgets .entry)) (now (periods .entry)) (now (deadlines .entry))) (length (now (room .entry))) ⌝ }
+    ensures buffer { λ r. ⌜ now (room .exit) ≡ writeBuffer (tables «message_ticks» «slot_ticks» (now (counts .entry)) (now (budgets .entry)) (now (periods .entry)) (now (deadlines .entry))) (now (room .entry)) ⌝ }
+    ensures reads { λ r. ⌜ (r .number ≡ 0 → ReadsBack (tables «message_ticks» «slot_ticks» (now (counts .entry)) (now (budgets .entry)) (now (periods .entry)) (now (deadlines .entry))) (r .second) (r .third) (now (room .exit))) ⌝ }
+    ensures again { λ r. ⌜ WrittenAgain (tables «message_ticks» «slot_ticks» (now (counts .entry)) (now (budgets .entry)) (now (periods .entry)) (now (deadlines .entry))) (now (room .entry)) r (now (room .exit)) ⌝ }
+{
+    writer::write_sheet(
+        message_ticks,
+        slot_ticks,
+        counts,
+        budgets,
+        periods,
+        deadlines,
+        room,
+    )
 }

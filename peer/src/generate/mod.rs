@@ -5,8 +5,10 @@ mod deadlines;
 mod faults;
 mod logs;
 mod named;
+mod named_tables;
 mod random;
 mod sheets;
+mod tables;
 
 use crate::sheet::{Bus, LAST_TICK};
 use crate::{Record, NOT_BEGUN};
@@ -17,6 +19,8 @@ use random::Random;
 
 pub(crate) use deadlines::total_tries;
 pub use named::named;
+pub use named_tables::named_tables;
+pub use tables::{tables_case, TablesCase};
 
 /// A generated replay starts no more turns, and most start far fewer.
 pub const MOST_TURNS: u64 = 4_000_000;

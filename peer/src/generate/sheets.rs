@@ -43,7 +43,7 @@ pub(super) fn bounded(ticks: u64) -> u32 {
     ticks.clamp(1, u64::from(LAST_TICK)) as u32
 }
 
-fn slot_length(random: &mut Random) -> u32 {
+pub(super) fn slot_length(random: &mut Random) -> u32 {
     match random.weighted(&[70, 15, 15]) {
         0 => random.between(1, 12) as u32,
         1 => random.between(1, 10_000) as u32,
@@ -262,7 +262,7 @@ fn fill_slow(plan: &mut Plan, random: &mut Random) {
     fill_roomy(plan, random);
 }
 
-fn extreme_ticks(random: &mut Random, most: u32) -> u32 {
+pub(super) fn extreme_ticks(random: &mut Random, most: u32) -> u32 {
     let ticks = match random.weighted(&[20, 20, 20, 40]) {
         0 => random.pick(&[1, 1, 2, 3]),
         1 => u64::from(most),

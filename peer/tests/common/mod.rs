@@ -1,7 +1,11 @@
 //! Shared by the tests; each test file uses a part of it.
 #![allow(dead_code)]
 
-use peer::{admit, one_stream, replay, Answer};
+use std::fmt::Debug;
+
+use peer::generate::{named_tables, TablesCase};
+use peer::stats::Figures;
+use peer::{admit, one_stream, replay, write_sheet, Answer, Tables};
 
 pub const NOT_BEGUN: u32 = peer::NOT_BEGUN;
 
@@ -101,4 +105,72 @@ pub fn listed_wait(sheet: &[u32], node: u32, stream: u32) -> u32 {
 
 pub fn bytes(words: &[u32]) -> Vec<u8> {
     words.iter().flat_map(|word| word.to_le_bytes()).collect()
+}
+
+/// The tables of sheet A.
+pub fn tables_a() -> Tables {
+    Tables {
+        message_ticks: 5,
+        slot_ticks: 1,
+        counts: vec![2, 1],
+        budgets: vec![1, 2],
+        periods: vec![40, 60, 30],
+        deadlines: vec![40, 60, 30],
+    }
+}
+
+pub fn tables_a_but(change: impl FnOnce(&mut Tables)) -> Tables {
+    let mut tables = tables_a();
+    change(&mut tables);
+    tables
+}
+
+/// Writes into a room with two words to spare; those two must stay.
+pub fn written(tables: &Tables) -> (Answer, Vec<u32>) {
+    let words = 3 + 3 * tables.counts.len() + 2 * tables.periods.len();
+    let mut room = vec![OLD; words + 2];
+    let given = write_sheet(tables, &mut room);
+    assert_eq!(room[words..], [OLD, OLD], "words past the sheet");
+    room.truncate(words);
+    (given, room)
+}
+
+/// A writer, good or broken.
+pub type Writer = fn(&Tables, &mut [u32]) -> Answer;
+
+/// The answer of a writer on a case, and what it leaves of the room.
+pub fn written_by(writer: Writer, case: &TablesCase) -> (Answer, Vec<u32>) {
+    let mut room = case.room.clone();
+    let given = writer(&case.tables, &mut room);
+    (given, room)
+}
+
+/// The named tables that have this name.
+pub fn named_tables_case(name: &str) -> TablesCase {
+    let mut all = named_tables().into_iter();
+    all.find(|case| case.0 == name).expect(name).1
+}
+
+/// Makes cases again and in another order; at most so many may be equal for
+/// another seed or the next index.
+pub fn assert_depends_on_seed_and_index_alone<Case: PartialEq + Debug>(
+    make: fn(u64, u64) -> Case,
+    most_equal: usize,
+) {
+    let first: Vec<Case> = (0..50).map(|index| make(5, index)).collect();
+    for index in (0..50).rev() {
+        assert_eq!(make(5, index as u64), first[index]);
+    }
+    let other = (0..50).filter(|&index| make(6, index) == first[index as usize]);
+    assert!(other.count() <= most_equal);
+    let shifted = (0..49).filter(|&index| first[index] == first[index + 1]);
+    assert!(shifted.count() <= most_equal);
+}
+
+/// Each of these has at least this count.
+pub fn least(figures: &Figures, names: &[&str], share: u64) {
+    for name in names {
+        let count = figures.count(name);
+        assert!(count >= share, "{name}: {count} of at least {share}");
+    }
 }

@@ -6,7 +6,7 @@ use mathlib.Core.Path.{_≡_, refl, sym, _∙_, ap}
 use mathlib.Core.List.{[], _∷_, _++_}
 use lib.ListN.{length, drop, set, length-set}
 use borrow.Author.Needs.{needs}
-use Rattle.model.proofs.Answers.Buffer.{write-next}
+use Rattle.theory.proofs.Overwriting.{write-next}
 use Rattle.input.specs.Input.{wordsFrom}
 use Rattle.input.proofs.Words.{words-length, words-more}
 use Rattle.input.proofs.store.Statement.{statement}

@@ -1,24 +1,12 @@
--- A lent buffer: written from the front, after i words it holds those i and then its old words from i on; and what an answer leaves
--- in it. Assumes nothing.
-use Prim.Native.Nat.{ℕ, suc, _+_, _<_}
-use native.Mathlib.Numerals.{add-one}
+-- A lent buffer: what an answer leaves in it. Assumes nothing.
+use Prim.Native.Nat.{ℕ}
 use native.Mathlib.Decide.{ℕ-discrete}
 use mathlib.Core.Path.{_≡_, refl, sym, ap, _∙_}
-use mathlib.Core.List.{List, [], _∷_, _++_}
-use lib.ListN.{length, set, drop}
-use lib.Seq.{drop-cons, set-at, append-snoc}
+use mathlib.Core.List.{List, _++_}
+use lib.ListN.{length, drop}
 use borrow.Author.Tests.{eq-eqb, ne-eqb}
 use Rattle.model.specs.declared.Answer.{Answer}
 use Rattle.model.specs.Answers.{bufferAfter}
-
--- One word more.
-pub write-next : (written old : List ℕ) (i v : ℕ)
-    → length written ≡ i
-    → i < length old
-    → set (written ++ drop i old) i v ≡ (written ++ (v ∷ [])) ++ drop (i + 1) old
-write-next written old i v same there =
-    rw (drop-cons old i 0 there, add-one i)
-    (set-at written _ (drop (suc i) old) v i same ∙ sym (append-snoc written v (drop (suc i) old)))
 
 -- A refusal changes no word.
 pub buffer-kept : (a : Answer) (values room : List ℕ) → (a .number ≡ 0 → ⊥) → room ≡ bufferAfter a values room

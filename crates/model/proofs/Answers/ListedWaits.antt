@@ -11,7 +11,8 @@ use Rattle.model.specs.declared.Verdict.the-variants.{Late, Listed}
 use Rattle.model.specs.Refusal.{refuse, accepted}
 use Rattle.model.specs.Sheet.{streamCount}
 use Rattle.model.specs.Analysis.{verdictOf}
-use Rattle.model.specs.Answers.{lateRefusal, waitWord, waitsFrom, nodeWaitsFrom}
+use Rattle.model.specs.Answers.{lateRefusal, waitWord, waitsFrom}
+use Rattle.theory.specs.Listing.{valuesFrom, joinedFrom}
 use Rattle.model.proofs.Sheet.Refusals.{one-more}
 
 -- A late verdict is refused,
@@ -42,32 +43,36 @@ module _ (s : List ℕ) (k : ℕ) where
       → i < count
       → verdictOf s k (i + 1) ≡ Listed wait cycles
       → waitsLeft i count ≡ wait ∷ waitsLeft (i + 1) count
-  unfolding waitsFrom waitWord
+  unfolding valuesFrom waitWord
   waits-next i count inside found =
       rw (one-more i count inside, add-one i) (rw (rw (add-one i) at found) refl)
 
   -- After the last stream none is left.
   pub waits-none : (i count : ℕ) → count ≤ i → waitsLeft i count ≡ []
-  unfolding waitsFrom
+  unfolding valuesFrom
   waits-none i count past = rw (sub-eq-zero-of-le past) refl
 
 module _ (s : List ℕ) where
+  -- The listed waits of the nodes from node k on, `count` nodes.
+  abbrev pub nodeWaits : ℕ → ℕ → List ℕ
+  nodeWaits k count = joinedFrom (λ i. waitsFrom s i 1 (streamCount s i)) k count
+
   -- The listed waits of the nodes after node i, of n nodes.
   abbrev pub nodesLeft : ℕ → ℕ → List ℕ
-  nodesLeft i n = nodeWaitsFrom s (suc i) (n - i)
+  nodesLeft i n = nodeWaits (suc i) (n - i)
 
   -- Before the first node all are left.
-  pub nodes-all : (n : ℕ) → nodesLeft 0 n ≡ nodeWaitsFrom s 1 n
+  pub nodes-all : (n : ℕ) → nodesLeft 0 n ≡ nodeWaits 1 n
   nodes-all n = rw sub-zero refl
 
   -- Those of the next node are the first of them.
   pub nodes-next : (i n : ℕ)
       → i < n
       → nodesLeft i n ≡ waitsFrom s (i + 1) 1 (streamCount s (i + 1)) ++ nodesLeft (i + 1) n
-  unfolding nodeWaitsFrom
+  unfolding joinedFrom
   nodes-next i n inside = rw (one-more i n inside, add-one i) refl
 
   -- After the last node none is left.
   pub nodes-none : (i n : ℕ) → n ≤ i → nodesLeft i n ≡ []
-  unfolding nodeWaitsFrom
+  unfolding joinedFrom
   nodes-none i n past = rw (sub-eq-zero-of-le past) refl

@@ -8,13 +8,14 @@ use mathlib.Core.Bool.{true, false, true≢false, false≢true}
 use mathlib.Core.List.{List, [], _∷_}
 use Rattle.theory.specs.Sum.{sum, upTo}
 use Rattle.theory.specs.Queue.{firstIn, first, firstOnes}
+use Rattle.theory.specs.Listing.{valuesFrom, joinedFrom}
 use Rattle.model.specs.declared.Answer.{Answer}
 use Rattle.model.specs.Limits.{notBegun}
 use Rattle.model.specs.Refusal.{refuseIf, _orElse_, firstOf, outside}
-use Rattle.model.specs.Sheet.{word, cycle, OnSheet, rowWrong, rowRefusal, streamWrong, streamRefusal, bodyRefusal, headerRefusal, sheetRefusal}
+use Rattle.model.specs.Sheet.{word, cycle, OnSheet, ticksOutside, countsOutside, timesOutside, rowWrong, rowRefusal, streamRefusal, bodyRefusal, headerRefusal, sheetRefusal}
 use Rattle.model.specs.Analysis.{streamOf, streamsFrom, outranks, above, mostReleases, interference, waitFor, lateAt, verdictAt, search, verdict, higherStreams, verdictOf}
 use Rattle.model.specs.Protocol.{KeepsPeriod, ofNode, queuedBefore, waiting, beginsFrom, serve, nextNode, nextBus, turn, start, stateAt, startOf, nodeOf, TurnsBefore, run, replayed}
-use Rattle.model.specs.Answers.{roomRefusal, tickBefore, releaseRefusal, logRefusal, horizonRefusal, unknownRefusal, verdictAnswer, lateRefusal, nodeLateRefusal, waitWord, waitsFrom, nodeWaitsFrom, bufferAfter, oneStreamAnswer, admitAnswer, admitBuffer, replayAnswer, stepped}
+use Rattle.model.specs.Answers.{roomRefusal, tickBefore, releaseRefusal, logRefusal, horizonRefusal, unknownRefusal, verdictAnswer, lateRefusal, nodeLateRefusal, waitWord, bufferAfter, oneStreamAnswer, admitAnswer, admitBuffer, replayAnswer, stepped}
 use Rattle.model.specs.Demand.{StreamWait, StreamLate, AllJudged, messagesOf, BeginsWithin, NextTurn, PeriodsKept, DueBefore, WholeReplay}
 use Rattle.model.specs.Bench.{sheetA, crowdedBy, logCrowded, logPeriodic}
 use Rattle.model.proofs.Protocol.Run.{turns-unique}
@@ -188,7 +189,7 @@ periodic turns next words whole =
 pub crowded-replay : Crowded (0 ∷ notBegun ∷ 6 ∷ 11 ∷ 17 ∷ [])
 unfolding
     sheetA crowdedBy sum upTo cycle firstIn first firstOnes refuseIf _orElse_ firstOf outside
-    rowWrong rowRefusal streamWrong streamRefusal bodyRefusal headerRefusal sheetRefusal
+    ticksOutside countsOutside timesOutside rowWrong rowRefusal streamRefusal bodyRefusal headerRefusal sheetRefusal
     outranks ofNode queuedBefore waiting beginsFrom serve nextNode nextBus turn start run replayed
     roomRefusal tickBefore releaseRefusal logRefusal horizonRefusal replayAnswer
 crowded-replay = crowded (0 ∷ notBegun ∷ 6 ∷ 11 ∷ 17 ∷ []) (demand3 A logCrowded 18 refl)
@@ -196,7 +197,7 @@ crowded-replay = crowded (0 ∷ notBegun ∷ 6 ∷ 11 ∷ 17 ∷ []) (demand3 A 
 pub periodic-replay : Periodic (0 ∷ 6 ∷ 11 ∷ 17 ∷ 40 ∷ [])
 unfolding
     sheetA logPeriodic sum upTo cycle firstIn first firstOnes refuseIf _orElse_ firstOf outside
-    rowWrong rowRefusal streamWrong streamRefusal bodyRefusal headerRefusal sheetRefusal
+    ticksOutside countsOutside timesOutside rowWrong rowRefusal streamRefusal bodyRefusal headerRefusal sheetRefusal
     outranks ofNode queuedBefore waiting beginsFrom serve nextNode nextBus turn start run replayed
     roomRefusal tickBefore releaseRefusal logRefusal horizonRefusal replayAnswer
 periodic-replay = periodic 32 57 (0 ∷ 6 ∷ 11 ∷ 17 ∷ 40 ∷ []) (demand3 A logPeriodic 57 refl)
@@ -220,9 +221,9 @@ pub record Second : Type 0 where
 pub second : Second
 unfolding
     sheetA sum upTo cycle refuseIf _orElse_ firstOf outside
-    rowWrong rowRefusal streamWrong streamRefusal bodyRefusal headerRefusal sheetRefusal
+    ticksOutside countsOutside timesOutside rowWrong rowRefusal streamRefusal bodyRefusal headerRefusal sheetRefusal
     streamsFrom outranks above mostReleases interference waitFor lateAt verdictAt search verdict verdictOf
-    unknownRefusal verdictAnswer oneStreamAnswer roomRefusal lateRefusal nodeLateRefusal waitWord waitsFrom nodeWaitsFrom bufferAfter admitAnswer admitBuffer
+    unknownRefusal verdictAnswer oneStreamAnswer roomRefusal lateRefusal nodeLateRefusal waitWord valuesFrom joinedFrom bufferAfter admitAnswer admitBuffer
 second =
     let judged = demand2 .oneStream A refl 1 2 (on-node-1 40 40 60 2 (omega arith) (omega arith)) in
     let judged37 = demand2 .oneStream A37 refl 1 2 (on-node-1 40 37 37 2 (omega arith) (omega arith)) in
@@ -244,7 +245,7 @@ second =
 none-late : (k j : ℕ) → OnSheet A k j → StreamLate A k j → ⊥
 unfolding
     sheetA sum upTo cycle refuseIf _orElse_ firstOf outside
-    rowWrong rowRefusal streamWrong streamRefusal bodyRefusal headerRefusal sheetRefusal
+    ticksOutside countsOutside timesOutside rowWrong rowRefusal streamRefusal bodyRefusal headerRefusal sheetRefusal
     streamsFrom outranks above mostReleases interference waitFor lateAt verdictAt search verdict verdictOf
     unknownRefusal verdictAnswer oneStreamAnswer
 none-late zero j on late = omega (arith, on .nodeFrom)
@@ -271,7 +272,7 @@ pub crowded-steps : stepped A logCrowded 3 (inFront (9 ∷ []) (start logCrowded
     ≡ record { bus = record { tick = 23; node = 2; turns = 3 }; begins = 0 ∷ notBegun ∷ 6 ∷ 11 ∷ 17 ∷ 9 ∷ [] }
 unfolding
     sheetA crowdedBy sum upTo cycle firstIn first firstOnes refuseIf _orElse_ firstOf outside
-    rowWrong rowRefusal streamWrong streamRefusal bodyRefusal headerRefusal sheetRefusal
+    ticksOutside countsOutside timesOutside rowWrong rowRefusal streamRefusal bodyRefusal headerRefusal sheetRefusal
     outranks ofNode queuedBefore waiting beginsFrom serve nextNode nextBus turn start stateAt
     tickBefore releaseRefusal logRefusal
 crowded-steps = stepping A logCrowded (9 ∷ []) refl refl 3 (omega arith)

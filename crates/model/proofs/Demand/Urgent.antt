@@ -8,7 +8,7 @@ use Rattle.theory.specs.Sum.{sum, upTo}
 use Rattle.theory.specs.Queue.{firstIn, first, firstOnes}
 use Rattle.model.specs.Limits.{notBegun}
 use Rattle.model.specs.Refusal.{refuseIf, _orElse_, firstOf, outside}
-use Rattle.model.specs.Sheet.{word, cycle, rowWrong, rowRefusal, streamWrong, streamRefusal, bodyRefusal, headerRefusal, sheetRefusal}
+use Rattle.model.specs.Sheet.{word, cycle, ticksOutside, countsOutside, timesOutside, rowWrong, rowRefusal, streamRefusal, bodyRefusal, headerRefusal, sheetRefusal}
 use Rattle.model.specs.Analysis.{streamsFrom, outranks, above, mostReleases, interference, waitFor, lateAt, verdictAt, search, verdict, verdictOf}
 use Rattle.model.specs.Protocol.{ofNode, queuedBefore, waiting, beginsFrom, serve, nextNode, nextBus, turn, start, stateAt, run, replayed}
 use Rattle.model.specs.Answers.{roomRefusal, tickBefore, releaseRefusal, logRefusal, horizonRefusal, unknownRefusal, verdictAnswer, oneStreamAnswer, replayAnswer}
@@ -34,7 +34,7 @@ pub record Urgent (words : List ℕ) : Type 0 where
 pub urgent : (words : List ℕ) → WholeReplay P2 logUrgent 18 3 23 words → Urgent words
 unfolding
     sheetA crowdedBy sum upTo cycle firstIn first firstOnes refuseIf _orElse_ firstOf outside
-    rowWrong rowRefusal streamWrong streamRefusal bodyRefusal headerRefusal sheetRefusal
+    ticksOutside countsOutside timesOutside rowWrong rowRefusal streamRefusal bodyRefusal headerRefusal sheetRefusal
     streamsFrom outranks above mostReleases interference waitFor lateAt verdictAt search verdict verdictOf
     ofNode queuedBefore waiting beginsFrom serve nextNode nextBus turn start stateAt
     unknownRefusal verdictAnswer oneStreamAnswer
@@ -56,7 +56,7 @@ urgent words whole =
 pub urgent-replay : Urgent (0 ∷ notBegun ∷ 6 ∷ 11 ∷ 17 ∷ [])
 unfolding
     sheetA crowdedBy sum upTo cycle firstIn first firstOnes refuseIf _orElse_ firstOf outside
-    rowWrong rowRefusal streamWrong streamRefusal bodyRefusal headerRefusal sheetRefusal
+    ticksOutside countsOutside timesOutside rowWrong rowRefusal streamRefusal bodyRefusal headerRefusal sheetRefusal
     outranks ofNode queuedBefore waiting beginsFrom serve nextNode nextBus turn start run replayed
     roomRefusal tickBefore releaseRefusal logRefusal horizonRefusal replayAnswer
 urgent-replay = urgent (0 ∷ notBegun ∷ 6 ∷ 11 ∷ 17 ∷ []) (demand3 P2 logUrgent 18 refl)

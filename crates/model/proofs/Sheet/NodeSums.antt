@@ -6,9 +6,9 @@ use native.Mathlib.Omega.{arith}
 use mathlib.Core.Path.{_≡_}
 use mathlib.Core.List.{List}
 use lib.ListN.{length}
-use Rattle.theory.proofs.Sums.{sumTo-next, sumTo-grows, sumTo-most, sumTo-least}
-use Rattle.model.specs.Limits.{maxStreams, maxBudget, streamWords, longestSheet}
-use Rattle.model.specs.Sheet.{nodes, streamCount, budget, streamsUpTo, totalStreams, budgetsUpTo, cycle, contentsWords, bodyPlace}
+use Rattle.theory.proofs.Sums.{sumTo-more, sumTo-room, sumTo-most, sumTo-least}
+use Rattle.model.specs.Limits.{maxNodes, maxStreams, maxBudget, maxSlotTicks, streamWords, longestSheet}
+use Rattle.model.specs.Sheet.{nodes, streamCount, budget, streamsUpTo, totalStreams, budgetsUpTo, fullCycle, cycle, contentsWords, bodyPlace}
 use Rattle.model.proofs.Sheet.ValidSheet.{SheetFits}
 
 module _ (s : List ℕ) (fits : SheetFits s) where
@@ -36,19 +36,26 @@ module _ (s : List ℕ) (fits : SheetFits s) where
   budgets-most =
       omega (arith, sumTo-most (budget s) maxBudget (nodes s) (λ k low high. fits .rows k low high .budgetTo), fits .header .nodesTo)
 
-  -- "C" at most: 16 nodes of 16 messages of 10,000 ticks, and 16 slots.
-  pub cycle-most : cycle s ≤ 2_720_000
-  unfolding cycle
-  cycle-most =
-      let h = fits .header in
-      omega (arith, mul-le-mul budgets-most (h .messageTo), mul-le-mul (h .nodesTo) (h .slotTo))
+-- "C" at most: 256 messages of 10,000 ticks, and 16 slots.
+pub full-cycle-most : {budgets message n slot : ℕ}
+    → budgets ≤ maxNodes * maxBudget
+    → message ≤ maxSlotTicks
+    → n ≤ maxNodes
+    → slot ≤ maxSlotTicks
+    → fullCycle budgets message n slot ≤ 2_720_000
+full-cycle-most budgets message n slot = omega (arith, mul-le-mul budgets message, mul-le-mul n slot)
+
+-- "C" of a valid sheet at most.
+pub cycle-most : (s : List ℕ) → SheetFits s → cycle s ≤ 2_720_000
+unfolding cycle
+cycle-most s fits = let h = fits .header in full-cycle-most (budgets-most s fits) (h .messageTo) (h .nodesTo) (h .slotTo)
 
 -- The streams before the next node and its own are those up to it,
 pub streams-next : (s : List ℕ) (i : ℕ) {sum count : ℕ}
     → sum ≡ streamsUpTo s i
     → count ≡ streamCount s (i + 1)
     → sum + count ≡ streamsUpTo s (i + 1)
-streams-next s i {sum} {count} e f = rw (add-one i) (omega (arith, e, rw (add-one i) at f, sumTo-next (streamCount s) i))
+streams-next s i e f = sumTo-more (streamCount s) i e f
 
 -- so that the next body stands after theirs,
 pub body-next : (s : List ℕ) (i : ℕ) {at : ℕ}
@@ -58,5 +65,4 @@ body-next s i e = rw (add-one i) e
 
 -- and they are not more than all.
 pub streams-room : (s : List ℕ) (i : ℕ) → i < nodes s → streamsUpTo s i + streamCount s (i + 1) ≤ totalStreams s
-streams-room s i inside =
-    rw (add-one i) (omega (arith, sumTo-next (streamCount s) i, sumTo-grows (streamCount s) (suc i) (nodes s) inside))
+streams-room s i inside = sumTo-room (streamCount s) i (nodes s) inside

@@ -2,7 +2,7 @@
 -- place on, so that a loop keeps "the rest from here equals the whole". Assumes nothing.
 use Prim.Native.Nat.{ℕ, zero, suc, _+_, _-_, _≤_, _<_}
 use native.Mathlib.Numerals.{add-one}
-use native.Mathlib.Nat.{sub-zero, sub-eq-zero-of-le, eq-or-lt-of-le, lt-irrefl}
+use native.Mathlib.Nat.{sub-zero, sub-eq-zero-of-le, eq-or-lt-of-le, lt-irrefl, le-refl}
 use native.Mathlib.Decide.{ℕ-discrete}
 use native.Mathlib.Omega.{arith}
 use mathlib.Core.Path.{_≡_, refl, sym, _∙_}
@@ -43,6 +43,10 @@ orElse-both a b e = go (eqb (a .number) 0) refl
         let n : a .number ≡ 0 → ⊥ = eqb-false (a .number) 0 h in
         absurd (n (rw (orElse-stop a b n) at e))
 
+-- Where neither check refuses, the chain finds nothing.
+pub orElse-none : (a b : Answer) → a .number ≡ 0 → b .number ≡ 0 → (a orElse b) .number ≡ 0
+orElse-none a b first second = rw (orElse-on a b first) second
+
 -- A chain of checks can be cut anywhere.
 pub orElse-assoc : (a b c : Answer) → (a orElse b) orElse c ≡ a orElse b orElse c
 unfolding _orElse_
@@ -56,6 +60,9 @@ orElse-assoc a b c = go (eqb (a .number) 0) refl
 pub refuseIf-not : {test : Bool} (a : Answer) → test ≡ false → refuseIf test a ≡ accepted
 unfolding refuseIf
 refuseIf-not a e = rw e refl
+
+pub refuseIf-passes : {test : Bool} (a : Answer) → test ≡ false → refuseIf test a .number ≡ 0
+refuseIf-passes a e = rw (refuseIf-not a e) refl
 
 pub refuseIf-so : {test : Bool} (a : Answer) → test ≡ true → refuseIf test a ≡ a
 unfolding refuseIf
@@ -114,6 +121,15 @@ first-none f from (suc count) e i low high =
         → f i .number ≡ 0
     go (inl same) here later = rw same at here
     go (inr less) here later = later less (omega arith)
+
+-- Where none of a row of checks refuses, the row finds nothing.
+pub first-all : (f : ℕ → Answer) (from count : ℕ) → ((i : ℕ) → from ≤ i → i < from + count → f i .number ≡ 0) → firstOf f from count .number ≡ 0
+unfolding firstOf
+first-all f from zero none = refl
+first-all f from (suc count) none =
+    orElse-none (f from) (firstOf f (suc from) count)
+    (none from (le-refl from) (omega arith))
+    (first-all f (suc from) count (λ i low high. none i (omega arith) (omega arith)))
 
 -- Where a row of checks refuses, its answer is that of one of them, and none before it refuses.
 pub record FirstFound (f : ℕ → Answer) (from count : ℕ) : Type 0 where

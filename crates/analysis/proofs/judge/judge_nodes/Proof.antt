@@ -9,12 +9,13 @@ use borrow.Author.Needs.{needs}
 use lib.ListN.{length, take}
 use Rattle.model.specs.Refusal.{firstOf}
 use Rattle.model.specs.Sheet.{nodes, streamCount, streamsUpTo}
-use Rattle.model.specs.Answers.{nodeLateRefusal, nodeWaitsFrom}
+use Rattle.model.specs.Answers.{nodeLateRefusal}
 use Rattle.model.proofs.Sheet.Refusals.{rest, rest-start, rest-on, rest-stop, rest-end}
-use Rattle.analysis.proofs.Filling.{fill-part, part-length, fill-end}
+use Rattle.analysis.proofs.Filling.{fill-part, fill-end}
+use Rattle.theory.proofs.Overwriting.{lent-length}
 use Rattle.theory.proofs.Sums.{sumTo-none}
 use Rattle.model.proofs.Sheet.NodeSums.{streams-next, streams-room}
-use Rattle.model.proofs.Answers.ListedWaits.{nodesLeft, nodes-all, nodes-next, nodes-none}
+use Rattle.model.proofs.Answers.ListedWaits.{nodeWaits, nodesLeft, nodes-all, nodes-next, nodes-none}
 use Rattle.analysis.proofs.judge.judge_nodes.Statement.{statement}
 use Rattle.analysis.proofs.judge.judge_nodes.Tie as tie
 
@@ -24,7 +25,7 @@ Inv-loop sheet n cycle waits₀ at₀ i₀ waits at i =
     × (length waits ≡ length waits₀)
     × (at ≡ streamsUpTo sheet i)
     × (rest (nodeLateRefusal sheet) i n ≡ firstOf (nodeLateRefusal sheet) 1 n)
-    × (take at waits ++ nodesLeft sheet i n ≡ nodeWaitsFrom sheet 1 n)
+    × (take at waits ++ nodesLeft sheet i n ≡ nodeWaits sheet 1 n)
 
 abbrev μ-loop : tie.MeasureT-loop
 μ-loop sheet n cycle waits₀ at₀ i₀ waits at i = n - i
@@ -66,7 +67,7 @@ judge-node-requires c κs =
       omega arith,
       omega (arith, p .1, c .before .loop-test .taken),
       p .2,
-      omega (arith, part-length (l .waits) (l .at), free (c .before)),
+      omega (arith, lent-length (l .waits) (l .at), free (c .before)),
     )
 
 same-length : tie.Need-same-length Inv-loop μ-loop
@@ -116,7 +117,7 @@ loop-again c =
       rw here
           (fill-part (l .waits) (node .last .1 .1 .1 .0) _ _ (l .at) _
           (omega (arith, room))
-          (omega (arith, room, part-length (l .waits) (l .at), node .kept .1 .1 .1 .0))
+          (omega (arith, room, lent-length (l .waits) (l .at), node .kept .1 .1 .1 .0))
           (node .ensures .1 (c .before .before .if1 .left))
           (nodes-next s (l .i) _ inside)
           (l .inv .4)),

@@ -1,0 +1,24 @@
+-- Lists made number by number, and values written over a part of a list. Assumes nothing.
+use Prim.Native.Nat.{ℕ, zero, suc, _+_}
+use mathlib.Core.Bool.{cond}
+use mathlib.Core.List.{List, [], _∷_, _++_}
+use lib.ListN.{length, take, drop}
+use lib.Dec.{ltb}
+
+-- f at `from`, at the number after it, and so on, `count` values.
+unfoldable pub valuesFrom : (ℕ → ℕ) → ℕ → ℕ → List ℕ
+valuesFrom f from zero = []
+valuesFrom f from (suc count) = f from ∷ valuesFrom f (suc from) count
+
+-- The list f at `from`, then the one at the number after it, and so on, `count` lists joined into one.
+unfoldable pub joinedFrom : (ℕ → List ℕ) → ℕ → ℕ → List ℕ
+joinedFrom f from zero = []
+joinedFrom f from (suc count) = f from ++ joinedFrom f (suc from) count
+
+-- A list with other values at a place, where they fit.
+abbrev pub overwritten : List ℕ → ℕ → List ℕ → List ℕ
+overwritten xs at values = take at xs ++ (values ++ drop (at + length values) xs)
+
+-- A list with values in its first words; one that is too short for them stays as it is.
+unfoldable pub putFront : List ℕ → List ℕ → List ℕ
+putFront values xs = cond (ltb (length xs) (length values)) xs (values ++ drop (length values) xs)
