@@ -96,7 +96,7 @@ fn wrong_checks() {
 
 #[test]
 fn right_where_the_error_plays_no_part() {
-    // One node, no streams, an exact room: only three errors have a part.
+    // One node, no streams, an exact room: only two errors have a part.
     let mut case = small_but(|tables| {
         tables.counts = vec![0];
         tables.budgets = vec![3];
@@ -108,7 +108,7 @@ fn right_where_the_error_plays_no_part() {
         let same = written_by(writer, &case) == written_by(write_sheet, &case);
         assert_eq!(same, name != "rows swapped" && name != "short cycle");
     }
-    // Up to refusal 4 at a row, all are right.
+    // Up to refusal 4, all are right but for the deadlines' number.
     for change in [
         |tables: &mut Tables| tables.counts.clear(),
         |tables: &mut Tables| tables.slot_ticks = 0,

@@ -1,5 +1,5 @@
--- "What is answered": the three numbers of each entry, and what it leaves in the lent buffer ("room") and in the bus record,
--- for every input. Rules 5.5, 6 and 7. Assumes nothing.
+-- "What is answered": the three numbers of each entry that takes a sheet, and what it leaves in the lent buffer ("room") and in the bus
+-- record, for every input. Rules 5.5, 6 and 7. Assumes nothing.
 use Prim.Native.Nat.{ℕ, zero, suc, pred, _%_}
 use mathlib.Core.Bool.{cond, _||_, not}
 use mathlib.Core.List.{List, _++_}
@@ -16,7 +16,8 @@ use Rattle.model.specs.Sheet.{nodes, streamCount, totalStreams, inSheetO
 use Rattle.model.specs.Analysis.{verdictOf}
 use Rattle.model.specs.Protocol.{releases, releaseTick, releaseStream, serveTurn, nextBus, State, replayed}
 
--- Refusal 6: "room shorter than one word a stream (admit) or a release (replay, step)".
+-- Refusal 6: "room shorter than one word a stream (admit) or a release (replay, step); for a later request, shorter than what its
+-- success writes".
 unfoldable pub roomRefusal : ℕ → ℕ → Answer
 roomRefusal needed room = refuseIf (ltb room needed) (refuse 6 0 0)
 

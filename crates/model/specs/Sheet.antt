@@ -102,12 +102,12 @@ abbrev pub budgetsUpTo : List ℕ → ℕ → ℕ
 budgetsUpTo s k = sumTo (budget s) k
 
 -- "Full cycle C = (sum of all budgets) × TMS + n × TPR": the longest time for a turn of every node.
-abbrev pub fullCycle : ℕ → ℕ → ℕ → ℕ → ℕ
-fullCycle budgets message n slot = budgets * message + n * slot
+abbrev pub cycleTicks : ℕ → ℕ → ℕ → ℕ → ℕ
+cycleTicks budgets message n slot = budgets * message + n * slot
 
 -- "C" of the sheet.
 unfoldable pub cycle : List ℕ → ℕ
-cycle s = fullCycle (budgetsUpTo s (nodes s)) (messageTicks s) (nodes s) (slotTicks s)
+cycle s = cycleTicks (budgetsUpTo s (nodes s)) (messageTicks s) (nodes s) (slotTicks s)
 
 -- Stream j of node k is on the sheet.
 pub record OnSheet (s : List ℕ) (k j : ℕ) : Type 0 where

@@ -1,18 +1,18 @@
 -- How large the sums of tables that are not refused can be, and C. Assumes nothing.
-use Prim.Native.Nat.{ℕ, suc, _≤_}
+use Prim.Native.Nat.{ℕ, suc, _*_, _≤_}
 use native.Mathlib.Omega.{arith}
 use lib.ListN.{length}
 use Rattle.theory.proofs.Sums.{sumTo-most}
-use Rattle.model.specs.Limits.{maxStreams, maxBudget}
+use Rattle.model.specs.Limits.{maxNodes, maxStreams, maxBudget}
 use Rattle.model.proofs.Sheet.NodeSums.{full-cycle-most}
 use Rattle.model.proofs.Sheet.ValidSheet.{ticks-within, counts-within}
-use Rattle.tables.specs.Tables.{Tables, nodeEntry, sumOf, streamsAhead}
+use Rattle.tables.specs.Tables.{Tables, nodeEntry, sumOf, countsBefore}
 use Rattle.tables.specs.Writing.{cycleOf}
 use Rattle.tables.proofs.Passing.{ContentsFit}
 
 module _ (t : Tables) (fit : ContentsFit t) where
   -- Sixteen nodes of sixteen streams, and of sixteen messages, at most.
-  pub streams-most : (k : ℕ) → k ≤ length (t .counts) → streamsAhead (t .counts) (suc k) ≤ 256
+  pub streams-most : (k : ℕ) → k ≤ length (t .counts) → countsBefore (t .counts) (suc k) ≤ maxNodes * maxStreams
   streams-most k high =
       omega (
         arith,
@@ -20,7 +20,7 @@ module _ (t : Tables) (fit : ContentsFit t) where
         sumTo-most (nodeEntry (t .counts)) maxStreams k (λ i low to. counts-within (fit .rows i low (omega arith)) .0),
       )
 
-  pub budgets-most : sumOf (t .budgets) ≤ 256
+  pub budgets-most : sumOf (t .budgets) ≤ maxNodes * maxBudget
   budgets-most =
       omega (
         arith,

@@ -13,7 +13,7 @@ use Rattle.model.specs.Refusal.{refuse, refuseIf, firstOf, outside}
 use Rattle.model.specs.Sheet.{ticksOutside, countsOutside, timesOutside}
 use Rattle.model.proofs.Sheet.Range.{within, inside}
 use Rattle.model.proofs.Sheet.Refusals.{orElse-both, orElse-none, refuseIf-none, refuseIf-passes, first-none, first-all}
-use Rattle.tables.specs.Tables.{Tables, nodeEntry, sumOf, streamsAhead, streamEntry}
+use Rattle.tables.specs.Tables.{Tables, nodeEntry, sumOf, countsBefore, streamEntry}
 use Rattle.tables.specs.Writing.{tableRowRefusal, tableStreamRefusal, tableBodyRefusal, contentsRefusal, lengthsDiffer, tablesRefusal}
 
 -- Refusals 2 and 3 and those of the rows do not apply.
@@ -34,7 +34,7 @@ pub record TablesFit (t : Tables) : Type 0 where
       → k ≤ length (t .counts)
       → 1 ≤ j
       → j ≤ nodeEntry (t .counts) k
-      → timesOutside (streamEntry (t .periods) (streamsAhead (t .counts) k) j) (streamEntry (t .deadlines) (streamsAhead (t .counts) k) j) ≡ false
+      → timesOutside (streamEntry (t .periods) (countsBefore (t .counts) k) j) (streamEntry (t .deadlines) (countsBefore (t .counts) k) j) ≡ false
 
 refuses : (number a b : ℕ) → refuse (suc number) a b .number ≡ 0 → ⊥
 refuses number a b e = omega arith
@@ -78,7 +78,7 @@ tables-fit t e =
       deadlinesAll = same-if _ _ (both .1);
       streams =
           λ k j low high from to.
-          let before = streamsAhead (t .counts) k in
+          let before = countsBefore (t .counts) k in
           refuseIf-none (timesOutside (streamEntry (t .periods) before j) (streamEntry (t .deadlines) before j)) (refuse 5 k j) (refuses 4 k j)
           (first-none (tableStreamRefusal (t .periods) (t .deadlines) before k) 1 (nodeEntry (t .counts) k)
           (first-none (tableBodyRefusal (t .counts) (t .periods) (t .deadlines)) 1 (length (t .counts)) (two .1) k low (omega arith))

@@ -48,7 +48,7 @@ module _ (t : Tables) (room : List ℕ) {a : Answer} {after : List ℕ} (answer 
       record {
         valid = rw sheet (written-valid t fit);
         same = rw sheet (written-tables t fit);
-        cycle = rw sheet (written-cycle t fit ∙ sym (ap (λ x. x .third) success));
+        sameCycle = omega (arith, ap cycle sheet, written-cycle t fit, ap (λ x. x .third) success);
       }
 
   pub again : WrittenAgain t room a after
@@ -57,7 +57,7 @@ module _ (t : Tables) (room : List ℕ) {a : Answer} {after : List ℕ} (answer 
       let fits = valid-fits s valid in
       let same : written t ≡ s = ap written read ∙ written-again s fits in
       let tables : tablesRefusal t .number ≡ 0 = rw read (tables-pass s fits) in
-      let long = refuseIf-passes _ (le-ltb (length room) (length (written t)) (rw same enough)) in
+      let long = refuseIf-passes _ (le-ltb (length room) (length (written t)) (omega (arith, ap length same, enough))) in
       let all = answered t (length room) tables long in
       let words : take (length s) after ≡ s =
       ap₂ take (ap length (sym same)) buffer ∙ in-front t room (rw all refl) ∙ same in

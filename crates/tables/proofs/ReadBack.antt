@@ -1,18 +1,18 @@
 -- The sheet that tables make is valid and reads back as the same tables: each word is where the reader looks for it.
 -- Assumes nothing.
-use Prim.Native.Nat.{ℕ, suc, pred, _+_, _*_, _≤_, _<_}
+use Prim.Native.Nat.{ℕ, pred, _+_, _*_, _≤_, _<_}
 use native.Mathlib.Nat.{add-zero}
 use native.Mathlib.Omega.{arith}
-use mathlib.Core.Path.{_≡_, refl, sym, _∙_, ap, ap₂}
+use mathlib.Core.Path.{_≡_, refl, sym, _∙_, ap}
 use mathlib.Core.List.{List}
 use lib.ListN.{length}
 use Rattle.theory.proofs.Sums.{sumTo-same, sumTo-split, sumTo-grows}
-use Rattle.model.specs.Limits.{headerWords, streamWords}
-use Rattle.model.specs.Sheet.{word, nodes, messageTicks, slotTicks, rowAt, place, streamCount, budget, streamsUpTo, streamsBefore, totalStreams, budgetsUpTo, firstBodyAt, bodyAt, bodyPlace, period, deadline, cycle, fullCycle, OnSheet, timesOutside, Valid}
+use Rattle.model.specs.Limits.{streamWords}
+use Rattle.model.specs.Sheet.{word, nodes, rowAt, place, streamCount, budget, streamsUpTo, streamsBefore, totalStreams, budgetsUpTo, firstBodyAt, bodyAt, period, deadline, cycle, OnSheet, Valid}
 use Rattle.model.proofs.Sheet.ValidSheet.{HeaderFits, RowFits, StreamFits, SheetFits, ticks-within, counts-within, times-within, fits-valid}
-use Rattle.tables.specs.Tables.{Tables, tablesOf, nodeEntry, sumUpTo, sumOf, streamsAhead, streamEntry}
+use Rattle.tables.specs.Tables.{Tables, tablesOf, nodeEntry, sumUpTo, sumOf, countsBefore, streamEntry}
 use Rattle.tables.specs.Writing.{rowOf, streamWordsOf, written, cycleOf}
-use Rattle.tables.proofs.WrittenWords.{ahead-follows, written-length, written-nodes, written-message, written-slot, written-row, written-stream}
+use Rattle.tables.proofs.WrittenWords.{written-length, written-nodes, written-message, written-slot, written-row, written-stream}
 use Rattle.tables.proofs.Passing.{TablesFit}
 use Rattle.tables.proofs.Reading.{nodes-read, streams-read}
 
@@ -24,7 +24,7 @@ module _ (t : Tables) where
   n = length (t .counts)
 
   -- What the reader finds in node k's row.
-  place-read : (k : ℕ) → 1 ≤ k → k ≤ n → place w k ≡ bodyAt n (streamsAhead (t .counts) k)
+  place-read : (k : ℕ) → 1 ≤ k → k ≤ n → place w k ≡ bodyAt n (countsBefore (t .counts) k)
   unfolding rowOf
   place-read k low high = ap (word w) (sym (add-zero (rowAt k))) ∙ written-row t k 0 low high (omega arith)
 
@@ -46,8 +46,8 @@ module _ (t : Tables) where
   -- Stream j of node k stands where that many streams before it end.
   at-stream : (k j : ℕ)
       → OnSheet w k j
-      → (place w k + streamWords * pred j ≡ firstBodyAt n + streamWords * (streamsAhead (t .counts) k + pred j))
-      × (streamsAhead (t .counts) k + pred j < sumOf (t .counts))
+      → (place w k + streamWords * pred j ≡ firstBodyAt n + streamWords * (countsBefore (t .counts) k + pred j))
+      × (countsBefore (t .counts) k + pred j < sumOf (t .counts))
   at-stream k j on =
       let high : k ≤ n = omega (arith, on .nodeTo, written-nodes t) in
       let counted = count-read k (on .nodeFrom) high in
@@ -55,19 +55,19 @@ module _ (t : Tables) where
       let grown = sumTo-grows (nodeEntry (t .counts)) k n high in
       (omega (arith, place-read k (on .nodeFrom) high), omega (arith, counted, upTo, grown, on .streamFrom, on .streamTo))
 
-  period-read : (k j : ℕ) → OnSheet w k j → period w k j ≡ streamEntry (t .periods) (streamsAhead (t .counts) k) j
+  period-read : (k j : ℕ) → OnSheet w k j → period w k j ≡ streamEntry (t .periods) (countsBefore (t .counts) k) j
   unfolding streamWordsOf
   period-read k j on =
       let at = at-stream k j on in
-      let q = streamsAhead (t .counts) k + pred j in
+      let q = countsBefore (t .counts) k + pred j in
       let here : place w k + streamWords * pred j ≡ firstBodyAt n + (streamWords * q + 0) = omega (arith, at .0) in
       ap (word w) here ∙ written-stream t q 0 (at .1) (omega arith)
 
-  deadline-read : (k j : ℕ) → OnSheet w k j → deadline w k j ≡ streamEntry (t .deadlines) (streamsAhead (t .counts) k) j
+  deadline-read : (k j : ℕ) → OnSheet w k j → deadline w k j ≡ streamEntry (t .deadlines) (countsBefore (t .counts) k) j
   unfolding streamWordsOf
   deadline-read k j on =
       let at = at-stream k j on in
-      let q = streamsAhead (t .counts) k + pred j in
+      let q = countsBefore (t .counts) k + pred j in
       let here : place w k + streamWords * pred j + 1 ≡ firstBodyAt n + (streamWords * q + 1) = omega (arith, at .0) in
       ap (word w) here ∙ written-stream t q 1 (at .1) (omega arith)
 
@@ -132,7 +132,7 @@ module _ (t : Tables) where
         let c = fit .contents in
         let counts : tablesOf w .counts ≡ t .counts = rw nodes-all (nodes-read (streamCount w) (t .counts) n refl count-read) in
         let budgets : tablesOf w .budgets ≡ t .budgets = rw nodes-all (nodes-read (budget w) (t .budgets) n (c .budgetsAll) budget-read) in
-        let before : (k j : ℕ) → OnSheet w k j → streamsBefore w k ≡ streamsAhead (t .counts) k =
+        let before : (k j : ℕ) → OnSheet w k j → streamsBefore w k ≡ countsBefore (t .counts) k =
         λ k j on. streams-sum (pred k) (omega (arith, on .nodeTo, nodes-all)) in
         let periods : tablesOf w .periods ≡ t .periods =
         streams-read w (period w) (t .periods) (fit .periodsAll ∙ sym total-sum) (

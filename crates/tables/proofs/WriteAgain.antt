@@ -14,7 +14,7 @@ use Rattle.model.specs.Limits.{headerWords, rowWords, streamWords}
 use Rattle.model.specs.Sheet.{word, nodes, rowAt, place, streamCount, budget, streamsUpTo, streamsBefore, totalStreams, budgetsUpTo, firstBodyAt, bodyAt, contentsWords, period, deadline, cycle, OnSheet, Valid}
 use Rattle.model.proofs.Sheet.ValidSheet.{SheetFits, valid-fits, ticks-inside, counts-inside, times-inside}
 use Rattle.model.proofs.Sheet.SheetOrder.{ordered-length, StreamAfter, stream-after}
-use Rattle.tables.specs.Tables.{Tables, tablesOf, nodeEntry, sumUpTo, sumOf, streamsAhead, streamEntry}
+use Rattle.tables.specs.Tables.{Tables, tablesOf, nodeEntry, sumUpTo, sumOf, countsBefore, streamEntry}
 use Rattle.tables.specs.Writing.{rowOf, streamWordsOf, written, cycleOf, tablesRefusal}
 use Rattle.tables.proofs.WrittenWords.{row-follows, stream-follows, row-length, stream-length, written-length, written-nodes, written-message, written-slot, written-row, written-stream}
 use Rattle.tables.proofs.Passing.{ContentsFit, TablesFit, fit-passes}
@@ -84,7 +84,7 @@ module _ (s : List ℕ) (fits : SheetFits s) where
   unfolding rowOf
   row-words k zero low high inside =
       let before = sum-streams (pred k) (omega (arith, high)) in
-      let placed : bodyAt (length (t .counts)) (streamsAhead (t .counts) k) ≡ place s k =
+      let placed : bodyAt (length (t .counts)) (countsBefore (t .counts) k) ≡ place s k =
       omega (arith, nodes-all, before, fits .rows k low high .placed) in
       placed ∙ ap (word s) (sym (add-zero (rowAt k)))
   row-words k (suc zero) low high inside = count-value k low high

@@ -11,7 +11,7 @@ use Rattle.theory.proofs.Listing.{joined-length, joined-at, joined-stretches}
 use Rattle.theory.proofs.Sums.{sumTo-none, sumTo-split}
 use Rattle.model.specs.Limits.{headerWords, rowWords, streamWords}
 use Rattle.model.specs.Sheet.{word, rowAt, firstBodyAt, bodyAt}
-use Rattle.tables.specs.Tables.{Tables, nodeEntry, sumUpTo, sumOf, streamsAhead}
+use Rattle.tables.specs.Tables.{Tables, nodeEntry, sumUpTo, sumOf, countsBefore}
 use Rattle.tables.specs.Writing.{headerOf, rowOf, streamWordsOf, bodyOf, rowsOf, bodiesOf, written}
 
 -- A row and a stream have so many words.
@@ -30,8 +30,8 @@ row-follows counts budgets k low = omega (arith, low, row-length counts budgets 
 pub stream-follows : (periods deadlines : List ℕ) (from k : ℕ) → from ≤ k → streamWords * suc k ≡ streamWords * k + length (streamWordsOf periods deadlines k)
 stream-follows periods deadlines from k low = omega (arith, stream-length periods deadlines k)
 
-pub ahead-follows : (counts : List ℕ) (k : ℕ) → 1 ≤ k → streamsAhead counts (suc k) ≡ streamsAhead counts k + nodeEntry counts k
-ahead-follows counts k low = sumTo-split (nodeEntry counts) k low
+pub counts-follow : (counts : List ℕ) (k : ℕ) → 1 ≤ k → countsBefore counts (suc k) ≡ countsBefore counts k + nodeEntry counts k
+counts-follow counts k low = sumTo-split (nodeEntry counts) k low
 
 -- So many rows, and so many streams, have so many words.
 pub rows-length : (counts budgets : List ℕ) (n : ℕ) → length (joinedFrom (rowOf counts budgets) 1 n) ≡ rowWords * n
@@ -45,17 +45,17 @@ streams-length periods deadlines from count =
 
 -- The bodies of so many nodes have so many words.
 pub bodies-length : (counts periods deadlines : List ℕ) (n : ℕ)
-    → length (joinedFrom (λ k. bodyOf periods deadlines (streamsAhead counts k) (nodeEntry counts k)) 1 n) ≡ streamWords * sumUpTo counts n
+    → length (joinedFrom (λ k. bodyOf periods deadlines (countsBefore counts k) (nodeEntry counts k)) 1 n) ≡ streamWords * sumUpTo counts n
 bodies-length counts periods deadlines n =
     let after : pred (1 + n) ≡ n = omega arith in
     omega (
       arith,
       joined-length
-          (λ k. bodyOf periods deadlines (streamsAhead counts k) (nodeEntry counts k))
-          (λ k. streamWords * streamsAhead counts k)
+          (λ k. bodyOf periods deadlines (countsBefore counts k) (nodeEntry counts k))
+          (λ k. streamWords * countsBefore counts k)
           1
           n
-          (λ k low. omega (arith, ahead-follows counts k low, streams-length periods deadlines (streamsAhead counts k) (nodeEntry counts k))),
+          (λ k low. omega (arith, counts-follow counts k low, streams-length periods deadlines (countsBefore counts k) (nodeEntry counts k))),
       sumTo-none (nodeEntry counts),
       ap (sumUpTo counts) after,
     )
@@ -75,9 +75,9 @@ module _ (t : Tables) where
   bodies-streams =
       let none = sumTo-none (nodeEntry (t .counts)) in
       let after : pred (1 + n) ≡ n = omega arith in
-      let all : streamsAhead (t .counts) 1 + total ≡ streamsAhead (t .counts) (1 + n) = omega (arith, none, ap (sumUpTo (t .counts)) after) in
-      joined-stretches (streamWordsOf (t .periods) (t .deadlines)) (streamsAhead (t .counts)) (nodeEntry (t .counts)) 1 n total
-      (ahead-follows (t .counts))
+      let all : countsBefore (t .counts) 1 + total ≡ countsBefore (t .counts) (1 + n) = omega (arith, none, ap (sumUpTo (t .counts)) after) in
+      joined-stretches (streamWordsOf (t .periods) (t .deadlines)) (countsBefore (t .counts)) (nodeEntry (t .counts)) 1 n total
+      (counts-follow (t .counts))
       all
       ∙ ap (λ from. joinedFrom (streamWordsOf (t .periods) (t .deadlines)) from total) none
 

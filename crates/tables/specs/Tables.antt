@@ -18,8 +18,8 @@ pub record Tables : Type 0 where
   pub deadlines : List ℕ
 
 -- The two numbers and four lent tables of the writer, in its order.
-abbrev pub tables : ℕ → ℕ → List ℕ → List ℕ → List ℕ → List ℕ → Tables
-tables message slot counts budgets periods deadlines =
+abbrev pub lentTables : ℕ → ℕ → List ℕ → List ℕ → List ℕ → List ℕ → Tables
+lentTables message slot counts budgets periods deadlines =
     record { message = message; slot = slot; counts = counts; budgets = budgets; periods = periods; deadlines = deadlines }
 
 -- What a table of nodes has for node k, from 1.
@@ -35,8 +35,8 @@ abbrev pub sumOf : List ℕ → ℕ
 sumOf table = sumUpTo table (length table)
 
 -- The streams of the nodes before node k, by the counts.
-abbrev pub streamsAhead : List ℕ → ℕ → ℕ
-streamsAhead counts k = sumUpTo counts (pred k)
+abbrev pub countsBefore : List ℕ → ℕ → ℕ
+countsBefore counts k = sumUpTo counts (pred k)
 
 -- What a table of streams has for the stream j of a node that so many streams come before: "in sheet order".
 abbrev pub streamEntry : List ℕ → ℕ → ℕ → ℕ

@@ -10,9 +10,9 @@ use Rattle.theory.specs.Listing.{joinedFrom}
 use Rattle.model.specs.declared.Answer.{Answer}
 use Rattle.model.specs.Limits.{maxNodes}
 use Rattle.model.specs.Refusal.{success, refuse, refuseIf, _orElse_, firstOf, outside}
-use Rattle.model.specs.Sheet.{word, bodyAt, fullCycle, cycle, ticksOutside, countsOutside, timesOutside, Valid}
+use Rattle.model.specs.Sheet.{word, bodyAt, cycleTicks, cycle, ticksOutside, countsOutside, timesOutside, Valid}
 use Rattle.model.specs.Answers.{roomRefusal, bufferAfter}
-use Rattle.tables.specs.Tables.{Tables, tablesOf, nodeEntry, sumOf, streamsAhead, streamEntry}
+use Rattle.tables.specs.Tables.{Tables, tablesOf, nodeEntry, sumOf, countsBefore, streamEntry}
 
 -- The first words: n, which "is the length of the counts", TMS and TPR.
 abbrev pub headerOf : Tables → List ℕ
@@ -20,7 +20,7 @@ headerOf t = length (t .counts) ∷ t .message ∷ t .slot ∷ []
 
 -- The contents row of node k: the place of its body, its number of streams, its budget.
 unfoldable pub rowOf : List ℕ → List ℕ → ℕ → List ℕ
-rowOf counts budgets k = bodyAt (length counts) (streamsAhead counts k) ∷ nodeEntry counts k ∷ nodeEntry budgets k ∷ []
+rowOf counts budgets k = bodyAt (length counts) (countsBefore counts k) ∷ nodeEntry counts k ∷ nodeEntry budgets k ∷ []
 
 -- The words of the stream that i others come before: its least period and its deadline.
 unfoldable pub streamWordsOf : List ℕ → List ℕ → ℕ → List ℕ
@@ -38,7 +38,7 @@ rowsOf t = joinedFrom (rowOf (t .counts) (t .budgets)) 1 (length (t .counts))
 abbrev pub bodiesOf : Tables → List ℕ
 bodiesOf t =
     joinedFrom
-    (λ k. bodyOf (t .periods) (t .deadlines) (streamsAhead (t .counts) k) (nodeEntry (t .counts) k))
+    (λ k. bodyOf (t .periods) (t .deadlines) (countsBefore (t .counts) k) (nodeEntry (t .counts) k))
     1
     (length (t .counts))
 
@@ -48,7 +48,7 @@ written t = headerOf t ++ rowsOf t ++ bodiesOf t
 
 -- "C" of tables.
 unfoldable pub cycleOf : ℕ → ℕ → List ℕ → List ℕ → ℕ
-cycleOf message slot counts budgets = fullCycle (sumOf budgets) message (length counts) slot
+cycleOf message slot counts budgets = cycleTicks (sumOf budgets) message (length counts) slot
 
 -- Refusal 4 "at (node, 0) for a row": its count or its budget is out of range.
 unfoldable pub tableRowRefusal : List ℕ → List ℕ → ℕ → Answer
@@ -62,7 +62,7 @@ tableStreamRefusal periods deadlines before k j =
 -- Refusal 5 of node k's streams, in order.
 unfoldable pub tableBodyRefusal : List ℕ → List ℕ → List ℕ → ℕ → Answer
 tableBodyRefusal counts periods deadlines k =
-    firstOf (tableStreamRefusal periods deadlines (streamsAhead counts k) k) 1 (nodeEntry counts k)
+    firstOf (tableStreamRefusal periods deadlines (countsBefore counts k) k) 1 (nodeEntry counts k)
 
 -- Refusals 2 and 3, and 4 "at 0 0 if budgets and counts differ in length, then at (node, 0) for a row".
 unfoldable pub contentsRefusal : ℕ → ℕ → List ℕ → List ℕ → Answer
@@ -99,7 +99,7 @@ writeBuffer t room = bufferAfter (writeAnswer t (length room)) (written t) room
 pub record ReadsBack (t : Tables) (words c : ℕ) (room : List ℕ) : Type 0 where
   pub valid : Valid (take words room)
   pub same : tablesOf (take words room) ≡ t
-  pub cycle : cycle (take words room) ≡ c
+  pub sameCycle : cycle (take words room) ≡ c
 
 -- "a valid sheet read and written again has the same words": what the writer answers, and leaves in the buffer, for the tables of any
 -- valid sheet that has room there.

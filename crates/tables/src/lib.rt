@@ -4,7 +4,7 @@ ghost use mathlib.Core.Path.{_≡_};
 ghost use Prim.Native.Nat.{_+_, _≤_, _<_, _^_};
 ghost use Rattle.model.specs.Limits.{maxNodes};
 ghost use Rattle.model.specs.Refusal.{outside, firstOf};
-ghost use Rattle.tables.specs.Tables.{tables, nodeEntry, sumUpTo};
+ghost use Rattle.tables.specs.Tables.{lentTables, nodeEntry, sumUpTo};
 ghost use Rattle.tables.specs.Writing.{tableRowRefusal, tableStreamRefusal, tableBodyRefusal, contentsRefusal, lengthsDiffer, tablesRefusal};
 use layout::wide;
 use layout::word_at;
@@ -159,7 +159,7 @@ pub fn check_tables(
     periods: &[u32],
     deadlines: &[u32],
 ) -> Answer
-    ensures { λ r. ⌜ r ≡ tablesRefusal (tables message slot (now (counts .entry)) (now (budgets .entry)) (now (periods .entry)) (now (deadlines .entry))) ⌝ }
+    ensures { λ r. ⌜ r ≡ tablesRefusal (lentTables message slot (now (counts .entry)) (now (budgets .entry)) (now (periods .entry)) (now (deadlines .entry))) ⌝ }
 {
     let contents = check_contents(message, slot, counts, budgets);
     if contents.number != 0 {

@@ -54,15 +54,6 @@ module _ (f : ℕ → List ℕ) where
   joined-next from count =
       ap (λ one. joinedFrom f from count ++ one) (sym (joined-one (from + count))) ∙ joined-append from count 1
 
--- Two functions that agree there have the same lists joined.
-pub joined-same : (f g : ℕ → List ℕ) (from count : ℕ)
-    → ((k : ℕ) → from ≤ k → k < from + count → f k ≡ g k)
-    → joinedFrom f from count ≡ joinedFrom g from count
-unfolding joinedFrom
-joined-same f g from zero same = refl
-joined-same f g from (suc count) same =
-    rw (same from (le-refl from) (omega arith), joined-same f g (suc from) count (λ k low high. same k (omega arith) (omega arith))) refl
-
 -- The lists start where those before them end: `start` says where, counted from anywhere.
 module _ (f : ℕ → List ℕ) (start : ℕ → ℕ) where
   abbrev Follows : ℕ → Type 0

@@ -1,4 +1,4 @@
--- Values written over a part of a list: what one more write adds, and what is lent from a place on. Assumes nothing.
+-- Values that take the place of a part of a list: what one more write adds, and what is lent from a place on. Assumes nothing.
 use Prim.Native.Nat.{ℕ, suc, _+_, _-_, _≤_, _<_}
 use native.Mathlib.Nat.{zero-add, add-zero, le-of-lt, le-refl}
 use native.Mathlib.Numerals.{add-one}
@@ -8,33 +8,21 @@ use mathlib.Core.List.{List, [], _∷_, _++_, append-nil, append-assoc}
 use lib.ListN.{length, getD, set, take, drop, length-append, length-drop, take-append-drop, drop-of-length-le}
 use lib.Seq.{length-take-le, drop-drop, take-at, drop-append-add, drop-cons, set-at, append-snoc, take-suc, take-length, take-all}
 use borrow.Author.Tests.{le-ltb, lt-ltb}
-use Rattle.theory.specs.Listing.{overwritten, putFront}
+use Rattle.theory.specs.Listing.{replacedAt, putFront}
 
 -- Nothing written changes nothing.
-pub over-none : (xs : List ℕ) (at : ℕ) → xs ≡ overwritten xs at []
+pub over-none : (xs : List ℕ) (at : ℕ) → xs ≡ replacedAt xs at []
 over-none xs at = sym (rw (add-zero) (take-append-drop at xs))
 
 module _ (xs : List ℕ) (at : ℕ) (vs : List ℕ) (fits : at + length vs ≤ length xs) where
-  -- What is written over has its length.
-  pub over-length : length (overwritten xs at vs) ≡ length xs
-  over-length =
-      omega (
-        arith,
-        fits,
-        length-append (take at xs) (vs ++ drop (at + length vs) xs),
-        length-append vs (drop (at + length vs) xs),
-        length-take-le at xs (omega (arith, fits)),
-        length-drop (at + length vs) xs,
-      )
-
   front-length : length (take at xs ++ vs) ≡ at + length vs
   front-length = omega (arith, fits, length-append (take at xs) vs, length-take-le at xs (omega (arith, fits)))
 
-  whole : overwritten xs at vs ≡ (take at xs ++ vs) ++ drop (at + length vs) xs
+  whole : replacedAt xs at vs ≡ (take at xs ++ vs) ++ drop (at + length vs) xs
   whole = sym (append-assoc (take at xs) vs (drop (at + length vs) xs))
 
   -- More values after them.
-  pub over-more : (ws : List ℕ) → overwritten (overwritten xs at vs) (at + length vs) ws ≡ overwritten xs at (vs ++ ws)
+  pub over-more : (ws : List ℕ) → replacedAt (replacedAt xs at vs) (at + length vs) ws ≡ replacedAt xs at (vs ++ ws)
   over-more ws =
       let front = take at xs ++ vs in
       let rest = drop (at + length vs) xs in
@@ -45,7 +33,7 @@ module _ (xs : List ℕ) (at : ℕ) (vs : List ℕ) (fits : at + length vs ≤ l
       rw (whole, taken, left, all) (append-assoc (take at xs) vs _ ∙ ap (λ more. take at xs ++ more) (sym (append-assoc vs ws _)))
 
 -- The part of a list from a place on, with values in its first words, stands after what comes before that place.
-pub over-part : (xs : List ℕ) (at : ℕ) (vs : List ℕ) → take at xs ++ (vs ++ drop (length vs) (drop at xs)) ≡ overwritten xs at vs
+pub over-part : (xs : List ℕ) (at : ℕ) (vs : List ℕ) → take at xs ++ (vs ++ drop (length vs) (drop at xs)) ≡ replacedAt xs at vs
 over-part xs at vs = ap (λ rest. take at xs ++ (vs ++ rest)) (drop-drop (length vs) at xs)
 
 -- The part that is lent from a place on has the rest of the list.
@@ -55,7 +43,7 @@ lent-length xs at = length-take-le (length xs - at) (drop at xs) (rw length-drop
 -- It comes back with values in its first words: they are written over the list at that place.
 pub over-lent : (xs part : List ℕ) (at : ℕ) (vs : List ℕ)
     → part ≡ vs ++ drop (length vs) (take (length xs - at) (drop at xs))
-    → take at xs ++ (part ++ drop (length xs - at) (drop at xs)) ≡ overwritten xs at vs
+    → take at xs ++ (part ++ drop (length xs - at) (drop at xs)) ≡ replacedAt xs at vs
 over-lent xs part at vs back =
     let all = take-all (length xs - at) (drop at xs) (rw length-drop (le-refl _)) in
     let none : drop (length xs - at) (drop at xs) ≡ [] = drop-of-length-le (drop at xs) {i = length xs - at} (rw length-drop (le-refl _)) in
@@ -65,17 +53,17 @@ over-lent xs part at vs back =
 pub over-next : (xs room part so-far vs : List ℕ) (at here : ℕ)
     → at + length so-far ≤ length xs
     → here ≡ at + length so-far
-    → room ≡ overwritten xs at so-far
+    → room ≡ replacedAt xs at so-far
     → part ≡ vs ++ drop (length vs) (take (length room - here) (drop here room))
-    → take here room ++ (part ++ drop (length room - here) (drop here room)) ≡ overwritten xs at (so-far ++ vs)
+    → take here room ++ (part ++ drop (length room - here) (drop here room)) ≡ replacedAt xs at (so-far ++ vs)
 over-next xs room part so-far vs at here fits place written back =
     over-lent room part here vs back
-    ∙ ap (λ i. overwritten room i vs) place
-    ∙ ap (λ ys. overwritten ys (at + length so-far) vs) written
+    ∙ ap (λ i. replacedAt room i vs) place
+    ∙ ap (λ ys. replacedAt ys (at + length so-far) vs) written
     ∙ over-more xs at so-far fits vs
 
 -- Values in the first words.
-pub over-front : (xs vs : List ℕ) → overwritten xs 0 vs ≡ vs ++ drop (length vs) xs
+pub over-front : (xs vs : List ℕ) → replacedAt xs 0 vs ≡ vs ++ drop (length vs) xs
 over-front xs vs = rw zero-add refl
 
 -- Values that fit are put there,

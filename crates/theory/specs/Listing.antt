@@ -16,8 +16,8 @@ joinedFrom f from zero = []
 joinedFrom f from (suc count) = f from ++ joinedFrom f (suc from) count
 
 -- A list with other values at a place, where they fit.
-abbrev pub overwritten : List ℕ → ℕ → List ℕ → List ℕ
-overwritten xs at values = take at xs ++ (values ++ drop (at + length values) xs)
+abbrev pub replacedAt : List ℕ → ℕ → List ℕ → List ℕ
+replacedAt xs at values = take at xs ++ (values ++ drop (at + length values) xs)
 
 -- A list with values in its first words; one that is too short for them stays as it is.
 unfoldable pub putFront : List ℕ → List ℕ → List ℕ

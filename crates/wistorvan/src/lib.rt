@@ -6,7 +6,7 @@ ghost use Prim.Native.Nat.{_≤_};
 ghost use Rattle.model.specs.Sheet.{totalStreams, sheetRefusal, OnSheet, Valid};
 ghost use Rattle.model.specs.Answers.{oneStreamAnswer, admitAnswer, admitBuffer, replayAnswer, replayBuffer, stepAnswer, stepBus, stepBuffer};
 ghost use Rattle.model.specs.Demand.{Judged, AllJudged, WholeReplay};
-ghost use Rattle.tables.specs.Tables.{tables};
+ghost use Rattle.tables.specs.Tables.{lentTables};
 ghost use Rattle.tables.specs.Writing.{writeAnswer, writeBuffer, ReadsBack, WrittenAgain};
 use model::Answer;
 use model::Bus;
@@ -85,10 +85,10 @@ pub extern "C" fn wistorvan_write_sheet(
     deadlines: &[u32],
     room: &mut [u32],
 ) -> Answer
-    ensures answer { λ r. ⌜ r ≡ writeAnswer (tables «message_ticks» «slot_ticks» (now (counts .entry)) (now (budgets .entry)) (now (periods .entry)) (now (deadlines .entry))) (length (now (room .entry))) ⌝ }
-    ensures buffer { λ r. ⌜ now (room .exit) ≡ writeBuffer (tables «message_ticks» «slot_ticks» (now (counts .entry)) (now (budgets .entry)) (now (periods .entry)) (now (deadlines .entry))) (now (room .entry)) ⌝ }
-    ensures reads { λ r. ⌜ (r .number ≡ 0 → ReadsBack (tables «message_ticks» «slot_ticks» (now (counts .entry)) (now (budgets .entry)) (now (periods .entry)) (now (deadlines .entry))) (r .second) (r .third) (now (room .exit))) ⌝ }
-    ensures again { λ r. ⌜ WrittenAgain (tables «message_ticks» «slot_ticks» (now (counts .entry)) (now (budgets .entry)) (now (periods .entry)) (now (deadlines .entry))) (now (room .entry)) r (now (room .exit)) ⌝ }
+    ensures answer { λ r. ⌜ r ≡ writeAnswer (lentTables «message_ticks» «slot_ticks» (now (counts .entry)) (now (budgets .entry)) (now (periods .entry)) (now (deadlines .entry))) (length (now (room .entry))) ⌝ }
+    ensures buffer { λ r. ⌜ now (room .exit) ≡ writeBuffer (lentTables «message_ticks» «slot_ticks» (now (counts .entry)) (now (budgets .entry)) (now (periods .entry)) (now (deadlines .entry))) (now (room .entry)) ⌝ }
+    ensures reads { λ r. ⌜ (r .number ≡ 0 → ReadsBack (lentTables «message_ticks» «slot_ticks» (now (counts .entry)) (now (budgets .entry)) (now (periods .entry)) (now (deadlines .entry))) (r .second) (r .third) (now (room .exit))) ⌝ }
+    ensures again { λ r. ⌜ WrittenAgain (lentTables «message_ticks» «slot_ticks» (now (counts .entry)) (now (budgets .entry)) (now (periods .entry)) (now (deadlines .entry))) (now (room .entry)) r (now (room .exit)) ⌝ }
 {
     writer::write_sheet(
         message_ticks,

@@ -1,11 +1,11 @@
 // The writer: a sheet made from tables in a lent buffer. What it answers and writes is given by the definitions of the crate `tables`.
 ghost use mathlib.Core.Path.{_≡_};
 ghost use mathlib.Core.List.{_++_};
-ghost use Prim.Native.Nat.{_≤_};
+ghost use Prim.Native.Nat.{_*_, _≤_};
 ghost use lib.ListN.{length, drop};
-ghost use Rattle.tables.specs.Tables.{tables, sumOf};
+ghost use Rattle.tables.specs.Tables.{lentTables, sumOf};
 ghost use Rattle.tables.specs.Writing.{cycleOf, contentsRefusal, tablesRefusal, written, writeAnswer, writeBuffer, ReadsBack, WrittenAgain};
-ghost use Rattle.model.specs.Limits.{maxNodes};
+ghost use Rattle.model.specs.Limits.{maxNodes, maxStreams};
 ghost use Rattle.model.specs.Sheet.{bodyAt};
 
 mod parts;
@@ -24,7 +24,7 @@ fn cycle_of(message: u32, slot: u32, counts: &[u32], budgets: &[u32]) -> u32
 
 // The words that the sheet of n nodes takes.
 fn sheet_words(counts: &[u32], n: u32) -> usize
-    requires { ⌜ (n ≡ length (now counts)) × (sumOf (now counts) ≤ 256) ⌝ }
+    requires { ⌜ (n ≡ length (now counts)) × (sumOf (now counts) ≤ maxNodes * maxStreams) ⌝ }
     ensures { λ r. ⌜ r ≡ bodyAt n (sumOf (now (counts .entry))) ⌝ }
 {
     layout::first_body_at(n) + layout::body_words(tables::sum_up_to(counts, n) as u32)
@@ -40,8 +40,8 @@ fn write_words(
     deadlines: &[u32],
     room: &mut [u32],
 )
-    requires { ⌜ (length (now counts) ≤ maxNodes) × (sumOf (now counts) ≤ 256) × (bodyAt (length (now counts)) (sumOf (now counts)) ≤ length (now room)) ⌝ }
-    ensures { λ _. ⌜ now (room .exit) ≡ written (tables message slot (now (counts .entry)) (now (budgets .entry)) (now (periods .entry)) (now (deadlines .entry))) ++ drop (length (written (tables message slot (now (counts .entry)) (now (budgets .entry)) (now (periods .entry)) (now (deadlines .entry))))) (now (room .entry)) ⌝ }
+    requires { ⌜ (length (now counts) ≤ maxNodes) × (sumOf (now counts) ≤ maxNodes * maxStreams) × (bodyAt (length (now counts)) (sumOf (now counts)) ≤ length (now room)) ⌝ }
+    ensures { λ _. ⌜ now (room .exit) ≡ written (lentTables message slot (now (counts .entry)) (now (budgets .entry)) (now (periods .entry)) (now (deadlines .entry))) ++ drop (length (written (lentTables message slot (now (counts .entry)) (now (budgets .entry)) (now (periods .entry)) (now (deadlines .entry))))) (now (room .entry)) ⌝ }
 {
     let n = counts.len() as u32;
     fill::put_header(n, message, slot, room);
@@ -60,10 +60,10 @@ pub fn write_sheet(
     deadlines: &[u32],
     room: &mut [u32],
 ) -> Answer
-    ensures answer { λ r. ⌜ r ≡ writeAnswer (tables «message_ticks» «slot_ticks» (now (counts .entry)) (now (budgets .entry)) (now (periods .entry)) (now (deadlines .entry))) (length (now (room .entry))) ⌝ }
-    ensures buffer { λ r. ⌜ now (room .exit) ≡ writeBuffer (tables «message_ticks» «slot_ticks» (now (counts .entry)) (now (budgets .entry)) (now (periods .entry)) (now (deadlines .entry))) (now (room .entry)) ⌝ }
-    ensures reads { λ r. ⌜ (r .number ≡ 0 → ReadsBack (tables «message_ticks» «slot_ticks» (now (counts .entry)) (now (budgets .entry)) (now (periods .entry)) (now (deadlines .entry))) (r .second) (r .third) (now (room .exit))) ⌝ }
-    ensures again { λ r. ⌜ WrittenAgain (tables «message_ticks» «slot_ticks» (now (counts .entry)) (now (budgets .entry)) (now (periods .entry)) (now (deadlines .entry))) (now (room .entry)) r (now (room .exit)) ⌝ }
+    ensures answer { λ r. ⌜ r ≡ writeAnswer (lentTables «message_ticks» «slot_ticks» (now (counts .entry)) (now (budgets .entry)) (now (periods .entry)) (now (deadlines .entry))) (length (now (room .entry))) ⌝ }
+    ensures buffer { λ r. ⌜ now (room .exit) ≡ writeBuffer (lentTables «message_ticks» «slot_ticks» (now (counts .entry)) (now (budgets .entry)) (now (periods .entry)) (now (deadlines .entry))) (now (room .entry)) ⌝ }
+    ensures reads { λ r. ⌜ (r .number ≡ 0 → ReadsBack (lentTables «message_ticks» «slot_ticks» (now (counts .entry)) (now (budgets .entry)) (now (periods .entry)) (now (deadlines .entry))) (r .second) (r .third) (now (room .exit))) ⌝ }
+    ensures again { λ r. ⌜ WrittenAgain (lentTables «message_ticks» «slot_ticks» (now (counts .entry)) (now (budgets .entry)) (now (periods .entry)) (now (deadlines .entry))) (now (room .entry)) r (now (room .exit)) ⌝ }
 {
     let refusal = tables::check_tables(
         message_ticks,

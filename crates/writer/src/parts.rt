@@ -3,10 +3,10 @@ ghost use mathlib.Core.Path.{_≡_};
 ghost use mathlib.Core.List.{_++_};
 ghost use Prim.Native.Nat.{_+_, _*_, _≤_, _<_, _^_};
 ghost use lib.ListN.{length, drop};
-ghost use Rattle.theory.specs.Listing.{joinedFrom, overwritten};
-ghost use Rattle.model.specs.Limits.{headerWords, streamWords, maxNodes};
+ghost use Rattle.theory.specs.Listing.{joinedFrom, replacedAt};
+ghost use Rattle.model.specs.Limits.{headerWords, streamWords, maxNodes, maxStreams};
 ghost use Rattle.model.specs.Sheet.{firstBodyAt, bodyAt};
-ghost use Rattle.tables.specs.Tables.{nodeEntry, sumOf, streamsAhead};
+ghost use Rattle.tables.specs.Tables.{nodeEntry, sumOf, countsBefore};
 ghost use Rattle.tables.specs.Writing.{rowOf, bodyOf};
 use layout::wide;
 use layout::word_at;
@@ -14,8 +14,8 @@ use tables::node_entry;
 
 // The contents rows of n nodes, after the header.
 pub fn write_rows(counts: &[u32], budgets: &[u32], n: u32, room: &mut [u32])
-    requires { ⌜ (n ≡ length (now counts)) × (n ≤ maxNodes) × (sumOf (now counts) ≤ 256) × (firstBodyAt n ≤ length (now room)) ⌝ }
-    ensures { λ _. ⌜ now (room .exit) ≡ overwritten (now (room .entry)) headerWords (joinedFrom (rowOf (now (counts .entry)) (now (budgets .entry))) 1 n) ⌝ }
+    requires { ⌜ (n ≡ length (now counts)) × (n ≤ maxNodes) × (sumOf (now counts) ≤ maxNodes * maxStreams) × (firstBodyAt n ≤ length (now room)) ⌝ }
+    ensures { λ _. ⌜ now (room .exit) ≡ replacedAt (now (room .entry)) headerWords (joinedFrom (rowOf (now (counts .entry)) (now (budgets .entry))) 1 n) ⌝ }
 {
     let mut place = layout::first_body_at(n);
     let mut i: u32 = 0;
@@ -49,8 +49,8 @@ pub fn write_body(periods: &[u32], deadlines: &[u32], before: usize, count: u32,
 
 // The bodies of n nodes, each written from its place on.
 pub fn write_bodies(counts: &[u32], periods: &[u32], deadlines: &[u32], n: u32, room: &mut [u32])
-    requires { ⌜ (n ≡ length (now counts)) × (n ≤ maxNodes) × (sumOf (now counts) ≤ 256) × (bodyAt n (sumOf (now counts)) ≤ length (now room)) ⌝ }
-    ensures { λ _. ⌜ now (room .exit) ≡ overwritten (now (room .entry)) (firstBodyAt n) (joinedFrom (λ k. bodyOf (now (periods .entry)) (now (deadlines .entry)) (streamsAhead (now (counts .entry)) k) (nodeEntry (now (counts .entry)) k)) 1 n) ⌝ }
+    requires { ⌜ (n ≡ length (now counts)) × (n ≤ maxNodes) × (sumOf (now counts) ≤ maxNodes * maxStreams) × (bodyAt n (sumOf (now counts)) ≤ length (now room)) ⌝ }
+    ensures { λ _. ⌜ now (room .exit) ≡ replacedAt (now (room .entry)) (firstBodyAt n) (joinedFrom (λ k. bodyOf (now (periods .entry)) (now (deadlines .entry)) (countsBefore (now (counts .entry)) k) (nodeEntry (now (counts .entry)) k)) 1 n) ⌝ }
 {
     let mut before: usize = 0;
     let mut at = layout::first_body_at(n);

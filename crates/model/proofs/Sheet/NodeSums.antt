@@ -8,7 +8,7 @@ use mathlib.Core.List.{List}
 use lib.ListN.{length}
 use Rattle.theory.proofs.Sums.{sumTo-more, sumTo-room, sumTo-most, sumTo-least}
 use Rattle.model.specs.Limits.{maxNodes, maxStreams, maxBudget, maxSlotTicks, streamWords, longestSheet}
-use Rattle.model.specs.Sheet.{nodes, streamCount, budget, streamsUpTo, totalStreams, budgetsUpTo, fullCycle, cycle, contentsWords, bodyPlace}
+use Rattle.model.specs.Sheet.{nodes, streamCount, budget, streamsUpTo, totalStreams, budgetsUpTo, cycleTicks, cycle, contentsWords, bodyPlace}
 use Rattle.model.proofs.Sheet.ValidSheet.{SheetFits}
 
 module _ (s : List ℕ) (fits : SheetFits s) where
@@ -42,7 +42,7 @@ pub full-cycle-most : {budgets message n slot : ℕ}
     → message ≤ maxSlotTicks
     → n ≤ maxNodes
     → slot ≤ maxSlotTicks
-    → fullCycle budgets message n slot ≤ 2_720_000
+    → cycleTicks budgets message n slot ≤ 2_720_000
 full-cycle-most budgets message n slot = omega (arith, mul-le-mul budgets message, mul-le-mul n slot)
 
 -- "C" of a valid sheet at most.

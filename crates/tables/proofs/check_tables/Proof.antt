@@ -2,7 +2,7 @@
 -- does not. Assumes nothing.
 use native.Mathlib.Omega.{arith}
 use Rattle.model.proofs.Sheet.Refusals.{refused, passed}
-use Rattle.tables.specs.Tables.{tables}
+use Rattle.tables.specs.Tables.{lentTables}
 use Rattle.tables.specs.Writing.{tablesRefusal}
 use Rattle.tables.proofs.Passing.{contents-fit}
 use borrow.Author.Needs.{needs}
@@ -19,7 +19,7 @@ returns c = refused _ (c .before .before .check-contents .ensures) (c .if1 .take
 cast-n : tie.Need-cast-n
 cast-n c =
     let a = c .before .before .before .before .before .before .before .args in
-    let t = tables (a .message) (a .slot) (a .counts .now) (a .budgets .now) (a .periods .now) (a .deadlines .now) in
+    let t = lentTables (a .message) (a .slot) (a .counts .now) (a .budgets .now) (a .periods .now) (a .deadlines .now) in
     omega (arith, contents-fit t (rw (c .before .before .check-contents .ensures) at (c .if1 .left)) .nodesTo)
 
 sum-up-to-requires : tie.Need-sum-up-to-requires

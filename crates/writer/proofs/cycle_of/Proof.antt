@@ -4,7 +4,7 @@ use mathlib.Core.Path.{_≡_, refl, sym, _∙_, ap}
 use mathlib.Core.List.{[]}
 use native.Mathlib.Omega.{arith}
 use lib.ListN.{length}
-use Rattle.tables.specs.Tables.{tables, sumUpTo, sumOf}
+use Rattle.tables.specs.Tables.{lentTables, sumUpTo, sumOf}
 use Rattle.tables.specs.Writing.{cycleOf}
 use Rattle.tables.proofs.Passing.{ContentsFit, contents-fit}
 use Rattle.tables.proofs.Bounds.{budgets-most, cycle-most}
@@ -13,8 +13,8 @@ use Rattle.writer.proofs.cycle_of.Statement.{statement}
 use Rattle.writer.proofs.cycle_of.Tie as tie
 
 -- What the caller knows of the tables.
-fit : (c : tie.Start) → ContentsFit (tables (c .args .message) (c .args .slot) (c .args .counts .now) (c .args .budgets .now) [] [])
-fit c = contents-fit (tables (c .args .message) (c .args .slot) (c .args .counts .now) (c .args .budgets .now) [] []) (c .pre)
+fit : (c : tie.Start) → ContentsFit (lentTables (c .args .message) (c .args .slot) (c .args .counts .now) (c .args .budgets .now) [] [])
+fit c = contents-fit (lentTables (c .args .message) (c .args .slot) (c .args .counts .now) (c .args .budgets .now) [] []) (c .pre)
 
 -- The sum up to the last node is that of the whole table.
 sum : (c : tie.After-sum-up-to) → c .sum-up-to .result ≡ sumOf (c .before .before .before .args .budgets .now)

@@ -13,7 +13,7 @@ use Rattle.model.specs.Sheet.{bodyAt}
 use Rattle.model.specs.Answers.{roomRefusal}
 use Rattle.model.proofs.Answers.Buffer.{buffer-kept, buffer-written}
 use Rattle.model.proofs.Sheet.Refusals.{orElse-both, refused, passed, refuseIf-none}
-use Rattle.tables.specs.Tables.{Tables, tables, sumOf}
+use Rattle.tables.specs.Tables.{Tables, lentTables, sumOf}
 use Rattle.tables.specs.Writing.{cycleOf, contentsRefusal, tablesRefusal, written, writeAnswer, writeBuffer, ReadsBack, WrittenAgain}
 use Rattle.tables.proofs.WrittenWords.{written-length}
 use Rattle.tables.proofs.Passing.{TablesFit, tables-fit}
@@ -96,18 +96,19 @@ contents-pass t passes = orElse-both (contentsRefusal (t .message) (t .slot) (t 
 -- What the check of the tables leaves.
 fit : (c : tie.Else1)
     → TablesFit
-    (tables (c .before .before .before .before .before .before .before .before .args .message-ticks) (c .before .before .before .before .before .before .before .before .args .slot-ticks) (c .before .before .before .before .before .before .before .before .args .counts .now) (c .before .before .before .before .before .before .before .before .args .budgets .now) (c .before .before .before .before .before .before .before .before .args .periods .now) (c .before .before .before .before .before .before .before .before .args .deadlines .now))
+    (lentTables (c .before .before .before .before .before .before .before .before .args .message-ticks) (c .before .before .before .before .before .before .before .before .args .slot-ticks) (c .before .before .before .before .before .before .before .before .args .counts .now) (c .before .before .before .before .before .before .before .before .args .budgets .now) (c .before .before .before .before .before .before .before .before .args .periods .now) (c .before .before .before .before .before .before .before .before .args .deadlines .now))
 fit c =
     let a = c .before .before .before .before .before .before .before .before .args in
-    tables-fit (tables (a .message-ticks) (a .slot-ticks) (a .counts .now) (a .budgets .now) (a .periods .now) (a .deadlines .now)) (rw (c .before .before .check-tables .ensures) at (c .if1 .left))
+    tables-fit (lentTables (a .message-ticks) (a .slot-ticks) (a .counts .now) (a .budgets .now) (a .periods .now) (a .deadlines .now)) (rw (c .before .before .check-tables .ensures) at (c .if1 .left))
 
 check-tables-requires : tie.Need-check-tables-requires
 check-tables-requires c κs = search needs
 
 returns : tie.Need-returns
+unfolding writeAnswer writeBuffer
 returns c =
     let a = c .before .before .before .before .before .before .before .before .args in
-    let t = tables (a .message-ticks) (a .slot-ticks) (a .counts .now) (a .budgets .now) (a .periods .now) (a .deadlines .now) in
+    let t = lentTables (a .message-ticks) (a .slot-ticks) (a .counts .now) (a .budgets .now) (a .periods .now) (a .deadlines .now) in
     refusing t (a .room .now) (by-tables t (length (a .room .now)) (c .before .before .check-tables .ensures) (c .if1 .taken)) (c .if1 .taken)
 
 cast-sheet-words : tie.Need-cast-sheet-words
@@ -120,9 +121,10 @@ refuse-if-requires : tie.Need-refuse-if-requires
 refuse-if-requires c κs = search needs
 
 returns-2 : tie.Need-returns-2
+unfolding writeAnswer writeBuffer
 returns-2 c =
     let a = c .before .before .before .before .before .before .before .before .before .before .before .before .args in
-    let t = tables (a .message-ticks) (a .slot-ticks) (a .counts .now) (a .budgets .now) (a .periods .now) (a .deadlines .now) in
+    let t = lentTables (a .message-ticks) (a .slot-ticks) (a .counts .now) (a .budgets .now) (a .periods .now) (a .deadlines .now) in
     refusing t (a .room .now) (by-room t (length (a .room .now)) (c .before .before .before .before .before .before .check-tables .ensures) (c .before .before .before .before .if1 .left) (c .before .before .before .sheet-words .ensures) (c .before .before .refuse-if .ensures) (c .if2 .taken)) (c .if2 .taken)
 
 write-words-requires : tie.Need-write-words-requires
@@ -139,15 +141,16 @@ cast-t13 c =
 cycle-of-requires : tie.Need-cycle-of-requires
 cycle-of-requires c κs =
     let a = c .before .before .before .before .before .before .before .before .before .before .before .before .before .before .before .before .args in
-    contents-pass (tables (a .message-ticks) (a .slot-ticks) (a .counts .now) (a .budgets .now) (a .periods .now) (a .deadlines .now)) (rw (c .before .before .before .before .before .before .before .before .before .before .check-tables .ensures) at (c .before .before .before .before .before .before .before .before .if1 .left))
+    contents-pass (lentTables (a .message-ticks) (a .slot-ticks) (a .counts .now) (a .budgets .now) (a .periods .now) (a .deadlines .now)) (rw (c .before .before .before .before .before .before .before .before .before .before .check-tables .ensures) at (c .before .before .before .before .before .before .before .before .if1 .left))
 
 same-length : tie.Need-same-length
 same-length c = search needs
 
 returns-3 : tie.Need-returns-3
+unfolding writeAnswer writeBuffer
 returns-3 c =
     let a = c .before .before .before .before .before .before .before .before .before .before .before .before .before .before .before .before .before .args in
-    let t = tables (a .message-ticks) (a .slot-ticks) (a .counts .now) (a .budgets .now) (a .periods .now) (a .deadlines .now) in
+    let t = lentTables (a .message-ticks) (a .slot-ticks) (a .counts .now) (a .budgets .now) (a .periods .now) (a .deadlines .now) in
     let answer = by-none t (length (a .room .now)) (c .before .before .before .before .before .before .before .before .before .before .before .check-tables .ensures) (c .before .before .before .before .before .before .before .before .before .if1 .left) (c .before .before .before .before .before .before .before .before .sheet-words .ensures) (c .before .before .before .before .before .before .before .refuse-if .ensures) (c .before .before .before .before .before .if2 .left) (c .cycle-of .ensures) in
     succeeding t (a .room .now) answer refl (c .before .before .before .write-words .ensures)
 

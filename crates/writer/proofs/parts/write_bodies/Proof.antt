@@ -6,13 +6,13 @@ use mathlib.Core.List.{List, _++_}
 use native.Mathlib.Omega.{arith}
 use borrow.Author.Needs.{needs}
 use lib.ListN.{length, take, drop}
-use Rattle.theory.specs.Listing.{joinedFrom, overwritten}
+use Rattle.theory.specs.Listing.{joinedFrom, replacedAt}
 use Rattle.theory.proofs.Listing.{joined-nil, joined-next}
 use Rattle.theory.proofs.Overwriting.{over-none, over-next, lent-length}
 use Rattle.theory.proofs.Sums.{sumTo-none, sumTo-more, sumTo-room}
 use Rattle.model.specs.Limits.{streamWords}
 use Rattle.model.specs.Sheet.{firstBodyAt, bodyAt}
-use Rattle.tables.specs.Tables.{nodeEntry, sumUpTo, streamsAhead}
+use Rattle.tables.specs.Tables.{nodeEntry, sumUpTo, countsBefore}
 use Rattle.tables.specs.Writing.{bodyOf}
 use Rattle.tables.proofs.WrittenWords.{streams-length, bodies-length}
 use Rattle.writer.proofs.parts.write_bodies.Statement.{statement}
@@ -20,18 +20,18 @@ use Rattle.writer.proofs.parts.write_bodies.Tie as tie
 
 -- The body of node k.
 abbrev nodeBody : List ℕ → List ℕ → List ℕ → ℕ → List ℕ
-nodeBody counts periods deadlines k = bodyOf periods deadlines (streamsAhead counts k) (nodeEntry counts k)
+nodeBody counts periods deadlines k = bodyOf periods deadlines (countsBefore counts k) (nodeEntry counts k)
 
 -- The next body, written into the part that is lent from its place on.
 next-body : (counts periods deadlines old room part : List ℕ) (i place n : ℕ) {before count : ℕ}
     → bodyAt n (sumUpTo counts i) ≤ length old
     → place ≡ bodyAt n before
-    → room ≡ overwritten old (firstBodyAt n) (joinedFrom (nodeBody counts periods deadlines) 1 i)
+    → room ≡ replacedAt old (firstBodyAt n) (joinedFrom (nodeBody counts periods deadlines) 1 i)
     → before ≡ sumUpTo counts i
     → count ≡ nodeEntry counts (i + 1)
     → part ≡ bodyOf periods deadlines before count ++ drop (streamWords * count) (take (length room - place) (drop place room))
     → take place room ++ (part ++ drop (length room - place) (drop place room))
-    ≡ overwritten old (firstBodyAt n) (joinedFrom (nodeBody counts periods deadlines) 1 (i + 1))
+    ≡ replacedAt old (firstBodyAt n) (joinedFrom (nodeBody counts periods deadlines) 1 (i + 1))
 next-body counts periods deadlines old room part i place n {before} {count} fits placed so-far sum counted back =
     let next : i + 1 ≡ 1 + i = omega arith in
     let ahead : i ≡ pred (1 + i) = omega arith in
@@ -44,8 +44,8 @@ next-body counts periods deadlines old room part i place n {before} {count} fits
     (omega (arith, placed, sum, long))
     so-far
     (rw own back)
-    ∙ ap (λ more. overwritten old (firstBodyAt n) (joinedFrom (nodeBody counts periods deadlines) 1 i ++ more)) body
-    ∙ ap (overwritten old (firstBodyAt n)) (joined-next (nodeBody counts periods deadlines) 1 i)
+    ∙ ap (λ more. replacedAt old (firstBodyAt n) (joinedFrom (nodeBody counts periods deadlines) 1 i ++ more)) body
+    ∙ ap (replacedAt old (firstBodyAt n)) (joined-next (nodeBody counts periods deadlines) 1 i)
 
 abbrev Inv-loop : tie.InvT-loop
 Inv-loop counts periods deadlines n room₀ before₀ at₀ i₀ room before at i =
@@ -53,7 +53,7 @@ Inv-loop counts periods deadlines n room₀ before₀ at₀ i₀ room before at 
     × (length room ≡ length room₀)
     × (before ≡ sumUpTo counts i)
     × (at ≡ bodyAt n before)
-    × (room ≡ overwritten room₀ (firstBodyAt n) (joinedFrom (nodeBody counts periods deadlines) 1 i))
+    × (room ≡ replacedAt room₀ (firstBodyAt n) (joinedFrom (nodeBody counts periods deadlines) 1 i))
 
 abbrev μ-loop : tie.MeasureT-loop
 μ-loop counts periods deadlines n room₀ before₀ at₀ i₀ room before at i = n - i
@@ -68,7 +68,7 @@ loop-holds c =
       refl,
       sym (sumTo-none (nodeEntry (a .counts .now))),
       omega (arith, c .first-body-at .ensures .0),
-      over-none (a .room .now) (firstBodyAt (a .n)) ∙ ap (overwritten (a .room .now) (firstBodyAt (a .n))) (sym (joined-nil (nodeBody (a .counts .now) (a .periods .now) (a .deadlines .now)) 1)),
+      over-none (a .room .now) (firstBodyAt (a .n)) ∙ ap (replacedAt (a .room .now) (firstBodyAt (a .n))) (sym (joined-nil (nodeBody (a .counts .now) (a .periods .now) (a .deadlines .now)) 1)),
     )
 
 add-node-entry : tie.Need-add-node-entry Inv-loop μ-loop

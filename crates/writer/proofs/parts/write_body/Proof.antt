@@ -6,7 +6,7 @@ use mathlib.Core.List.{List, [], _∷_, _++_}
 use native.Mathlib.Omega.{arith}
 use borrow.Author.Needs.{needs}
 use lib.ListN.{length, take, drop}
-use Rattle.theory.specs.Listing.{overwritten, putFront}
+use Rattle.theory.specs.Listing.{replacedAt, putFront}
 use Rattle.theory.proofs.Listing.{joined-nil, joined-next}
 use Rattle.theory.proofs.Overwriting.{over-none, over-next, over-front, lent-length, put-fits}
 use Rattle.model.specs.Limits.{streamWords}
@@ -21,11 +21,11 @@ next-stream : (periods deadlines old body part : List ℕ) (before i at : ℕ) {
     → streamWords * i ≤ length old
     → at + streamWords ≤ length body
     → at ≡ streamWords * i
-    → body ≡ overwritten old 0 (bodyOf periods deadlines before i)
+    → body ≡ replacedAt old 0 (bodyOf periods deadlines before i)
     → p ≡ word periods (before + i)
     → d ≡ word deadlines (before + i)
     → part ≡ putFront (p ∷ d ∷ []) (take (length body - at) (drop at body))
-    → take at body ++ (part ++ drop (length body - at) (drop at body)) ≡ overwritten old 0 (bodyOf periods deadlines before (i + 1))
+    → take at body ++ (part ++ drop (length body - at) (drop at body)) ≡ replacedAt old 0 (bodyOf periods deadlines before (i + 1))
 unfolding streamWordsOf
 next-stream periods deadlines old body part before i at {p} {d} fits free place so-far period deadline put =
     let words : List ℕ = streamWordsOf periods deadlines (before + i) in
@@ -33,11 +33,11 @@ next-stream periods deadlines old body part before i at {p} {d} fits free place 
     let lent = take (length body - at) (drop at body) in
     let back = put-fits words lent (omega (arith, free, lent-length body at)) in
     over-next old body part (bodyOf periods deadlines before i) words 0 at (omega (arith, fits, long)) (omega (arith, place, long)) so-far ((rw (period, deadline) at put) ∙ back)
-    ∙ ap (overwritten old 0) (joined-next (streamWordsOf periods deadlines) before i)
+    ∙ ap (replacedAt old 0) (joined-next (streamWordsOf periods deadlines) before i)
 
 abbrev Inv-loop : tie.InvT-loop
 Inv-loop periods deadlines before count body₀ i₀ body i =
-    (i ≤ count) × (length body ≡ length body₀) × (body ≡ overwritten body₀ 0 (bodyOf periods deadlines before i))
+    (i ≤ count) × (length body ≡ length body₀) × (body ≡ replacedAt body₀ 0 (bodyOf periods deadlines before i))
 
 abbrev μ-loop : tie.MeasureT-loop
 μ-loop periods deadlines before count body₀ i₀ body i = count - i
@@ -45,7 +45,7 @@ abbrev μ-loop : tie.MeasureT-loop
 loop-holds : tie.Need-loop-holds Inv-loop μ-loop
 loop-holds c =
     let a = c .before .before .before .args in
-    (omega arith, refl, over-none (a .body .now) 0 ∙ ap (overwritten (a .body .now) 0) (sym (joined-nil (streamWordsOf (a .periods .now) (a .deadlines .now)) (a .before))))
+    (omega arith, refl, over-none (a .body .now) 0 ∙ ap (replacedAt (a .body .now) 0) (sym (joined-nil (streamWordsOf (a .periods .now) (a .deadlines .now)) (a .before))))
 
 -- The part has the words of the next stream.
 free : (c : tie.After-word-at2 Inv-loop μ-loop)

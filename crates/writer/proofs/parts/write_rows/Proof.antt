@@ -6,7 +6,7 @@ use mathlib.Core.List.{List, [], _∷_, _++_}
 use native.Mathlib.Omega.{arith}
 use borrow.Author.Needs.{needs}
 use lib.ListN.{length, take, drop}
-use Rattle.theory.specs.Listing.{joinedFrom, overwritten, putFront}
+use Rattle.theory.specs.Listing.{joinedFrom, replacedAt, putFront}
 use Rattle.theory.proofs.Listing.{joined-nil, joined-next}
 use Rattle.theory.proofs.Overwriting.{over-none, over-next, lent-length, put-fits}
 use Rattle.theory.proofs.Sums.{sumTo-none, sumTo-more, sumTo-room}
@@ -23,12 +23,12 @@ next-row : (counts budgets old room part : List ℕ) (i at : ℕ) {place count b
     → headerWords + rowWords * i ≤ length old
     → at + rowWords ≤ length room
     → at ≡ rowAt (i + 1)
-    → room ≡ overwritten old headerWords (joinedFrom (rowOf counts budgets) 1 i)
+    → room ≡ replacedAt old headerWords (joinedFrom (rowOf counts budgets) 1 i)
     → place ≡ bodyAt (length counts) (sumUpTo counts i)
     → count ≡ nodeEntry counts (i + 1)
     → budget ≡ nodeEntry budgets (i + 1)
     → part ≡ putFront (place ∷ count ∷ budget ∷ []) (take (length room - at) (drop at room))
-    → take at room ++ (part ++ drop (length room - at) (drop at room)) ≡ overwritten old headerWords (joinedFrom (rowOf counts budgets) 1 (i + 1))
+    → take at room ++ (part ++ drop (length room - at) (drop at room)) ≡ replacedAt old headerWords (joinedFrom (rowOf counts budgets) 1 (i + 1))
 unfolding rowOf
 next-row counts budgets old room part i at {place} {count} {budget} fits free here so-far placed counted allowed put =
     let next : i + 1 ≡ 1 + i = omega arith in
@@ -40,14 +40,14 @@ next-row counts budgets old room part i at {place} {count} {budget} fits free he
     let row : place ∷ count ∷ budget ∷ [] ≡ words =
     rw (placed ∙ ap (λ k. bodyAt (length counts) (sumUpTo counts k)) before, counted ∙ ap (nodeEntry counts) next, allowed ∙ ap (nodeEntry budgets) next) refl in
     over-next old room part (joinedFrom (rowOf counts budgets) 1 i) words headerWords at (omega (arith, fits, long)) (omega (arith, here, long)) so-far ((rw row at put) ∙ back)
-    ∙ ap (overwritten old headerWords) (joined-next (rowOf counts budgets) 1 i)
+    ∙ ap (replacedAt old headerWords) (joined-next (rowOf counts budgets) 1 i)
 
 abbrev Inv-loop : tie.InvT-loop
 Inv-loop counts budgets n room₀ place₀ i₀ room place i =
     (i ≤ n)
     × (length room ≡ length room₀)
     × (place ≡ bodyAt n (sumUpTo counts i))
-    × (room ≡ overwritten room₀ headerWords (joinedFrom (rowOf counts budgets) 1 i))
+    × (room ≡ replacedAt room₀ headerWords (joinedFrom (rowOf counts budgets) 1 i))
 
 abbrev μ-loop : tie.MeasureT-loop
 μ-loop counts budgets n room₀ place₀ i₀ room place i = n - i
@@ -58,7 +58,7 @@ first-body-at-requires c κs = search needs
 loop-holds : tie.Need-loop-holds Inv-loop μ-loop
 loop-holds c =
     let a = c .before .before .before .before .args in
-    (omega arith, refl, omega (arith, c .first-body-at .ensures .0, sumTo-none (nodeEntry (a .counts .now))), over-none (a .room .now) headerWords ∙ ap (overwritten (a .room .now) headerWords) (sym (joined-nil (rowOf (a .counts .now) (a .budgets .now)) 1)))
+    (omega arith, refl, omega (arith, c .first-body-at .ensures .0, sumTo-none (nodeEntry (a .counts .now))), over-none (a .room .now) headerWords ∙ ap (replacedAt (a .room .now) headerWords) (sym (joined-nil (rowOf (a .counts .now) (a .budgets .now)) 1)))
 
 add-row-at : tie.Need-add-row-at Inv-loop μ-loop
 add-row-at c = omega arith
