@@ -1,12 +1,12 @@
 -- Filling a buffer from its front: the words that are filled in, and the values that are left, are the whole. Each law says what one
 -- store does to that. Assumes nothing.
 use Prim.Native.Nat.{ℕ, _+_, _-_, _≤_, _<_}
-use native.Mathlib.Nat.{le-refl, le-of-lt}
+use native.Mathlib.Nat.{le-refl}
 use native.Mathlib.Numerals.{add-one}
-use mathlib.Core.Path.{_≡_, sym, ap, _∙_}
+use mathlib.Core.Path.{_≡_, sym, _∙_}
 use mathlib.Core.List.{List, [], _∷_, _++_, append-nil, append-assoc}
-use lib.ListN.{length, getD, take, drop, set, length-drop}
-use lib.Seq.{length-take-le, take-length, take-suc, take-suc-set, take-set-le, take-append-le, take-append-add, append-snoc}
+use lib.ListN.{length, take, set}
+use lib.Seq.{length-take-le, take-suc-set, take-set-le, take-append-le, take-append-add, append-snoc}
 
 -- The next value is stored after those that are filled in.
 pub fill-one : (xs : List ℕ) (n v : ℕ) {left left' whole : List ℕ}

@@ -1,8 +1,7 @@
 // The verdicts on all streams of a sheet, and their listed waits in a lent buffer.
 ghost use mathlib.Core.Path.{_≡_};
 ghost use Prim.Native.Nat.{_≤_};
-ghost use mathlib.Core.List.{_++_};
-ghost use lib.ListN.{length, take, drop};
+ghost use lib.ListN.{length, take};
 ghost use Rattle.model.specs.Refusal.{success, _orElse_, firstOf};
 ghost use Rattle.model.specs.Sheet.{nodes, cycle as fullCycle, streamCount, totalStreams, Valid};
 ghost use Rattle.model.specs.Answers.{nodeLateRefusal, waitsFrom, listedWaits, bufferAfter};

@@ -11,7 +11,7 @@ use Rattle.model.specs.Sheet.{cycle, ticksOutside, countsOutside, timesOutside,
 use Rattle.model.specs.Answers.{roomRefusal}
 use Rattle.model.specs.Bench.{sheetA}
 use Rattle.model.proofs.Sheet.ValidSheet.{valid-fits}
-use Rattle.tables.specs.Tables.{Tables, lentTables, tablesOf}
+use Rattle.tables.specs.Tables.{Tables, lentTables}
 use Rattle.tables.specs.Writing.{rowOf, streamWordsOf, written, cycleOf, tableRowRefusal, tableStreamRefusal, tableBodyRefusal, contentsRefusal, lengthsDiffer, tablesRefusal, writeAnswer, ReadsBack, WrittenAgain}
 use Rattle.tables.proofs.WriteAgain.{written-again}
 

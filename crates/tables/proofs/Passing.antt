@@ -1,15 +1,14 @@
 -- What tables that are not refused give, and that tables with these are not refused. Assumes nothing.
-use Prim.Native.Nat.{ℕ, suc, _+_, _≤_, _<_}
+use Prim.Native.Nat.{ℕ, suc, _≤_}
 use native.Mathlib.Omega.{arith}
 use mathlib.Core.Path.{_≡_, ap}
 use mathlib.Core.Bool.{false, _||_, not}
-use mathlib.Core.List.{List}
 use lib.ListN.{length}
 use lib.Dec.{eqb}
 use borrow.Author.Tests.{eqb-true, eq-eqb, not-false}
 use Rattle.theory.proofs.Tests.{or-neither, or-second}
 use Rattle.model.specs.Limits.{maxNodes}
-use Rattle.model.specs.Refusal.{refuse, refuseIf, firstOf, outside}
+use Rattle.model.specs.Refusal.{refuse, refuseIf, outside}
 use Rattle.model.specs.Sheet.{ticksOutside, countsOutside, timesOutside}
 use Rattle.model.proofs.Sheet.Range.{within, inside}
 use Rattle.model.proofs.Sheet.Refusals.{orElse-both, orElse-none, refuseIf-none, refuseIf-passes, first-none, first-all}

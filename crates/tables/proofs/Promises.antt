@@ -1,20 +1,20 @@
 -- The clauses of the writer's contract: what it wrote reads back as the tables, and the tables of a valid sheet give its words.
 -- Assumes nothing.
-use Prim.Native.Nat.{ℕ, _≤_}
+use Prim.Native.Nat.{ℕ}
 use native.Mathlib.Omega.{arith}
 use mathlib.Core.Path.{_≡_, refl, sym, _∙_, ap, ap₂}
-use mathlib.Core.List.{List, _++_}
+use mathlib.Core.List.{List}
 use lib.ListN.{length, take, drop}
 use lib.Seq.{take-append-seam}
 use borrow.Author.Tests.{le-ltb}
 use Rattle.model.specs.declared.Answer.{Answer}
 use Rattle.model.specs.Refusal.{success, _orElse_}
-use Rattle.model.specs.Sheet.{cycle, Valid}
-use Rattle.model.specs.Answers.{roomRefusal, bufferAfter}
+use Rattle.model.specs.Sheet.{cycle}
+use Rattle.model.specs.Answers.{roomRefusal}
 use Rattle.model.proofs.Answers.Buffer.{buffer-written}
 use Rattle.model.proofs.Sheet.Refusals.{orElse-on, orElse-both, refuseIf-passes}
 use Rattle.model.proofs.Sheet.ValidSheet.{valid-fits}
-use Rattle.tables.specs.Tables.{Tables, tablesOf}
+use Rattle.tables.specs.Tables.{Tables}
 use Rattle.tables.specs.Writing.{written, cycleOf, tablesRefusal, writeAnswer, writeBuffer, ReadsBack, WrittenAgain}
 use Rattle.tables.proofs.Passing.{tables-fit}
 use Rattle.tables.proofs.ReadBack.{written-valid, written-tables, written-cycle}

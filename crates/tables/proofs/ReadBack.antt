@@ -9,7 +9,7 @@ use lib.ListN.{length}
 use Rattle.theory.proofs.Sums.{sumTo-same, sumTo-split, sumTo-grows}
 use Rattle.model.specs.Limits.{streamWords}
 use Rattle.model.specs.Sheet.{word, nodes, rowAt, place, streamCount, budget, streamsUpTo, streamsBefore, totalStreams, budgetsUpTo, firstBodyAt, bodyAt, period, deadline, cycle, OnSheet, Valid}
-use Rattle.model.proofs.Sheet.ValidSheet.{HeaderFits, RowFits, StreamFits, SheetFits, ticks-within, counts-within, times-within, fits-valid}
+use Rattle.model.proofs.Sheet.ValidSheet.{HeaderFits, RowFits, StreamFits, ticks-within, counts-within, times-within, fits-valid}
 use Rattle.tables.specs.Tables.{Tables, tablesOf, nodeEntry, sumUpTo, sumOf, countsBefore, streamEntry}
 use Rattle.tables.specs.Writing.{rowOf, streamWordsOf, written, cycleOf}
 use Rattle.tables.proofs.WrittenWords.{written-length, written-nodes, written-message, written-slot, written-row, written-stream}

@@ -11,13 +11,13 @@ use lib.Seq.{ext-getD}
 use Rattle.theory.proofs.Listing.{values-length, located}
 use Rattle.theory.proofs.Sums.{sumTo-same}
 use Rattle.model.specs.Limits.{headerWords, rowWords, streamWords}
-use Rattle.model.specs.Sheet.{word, nodes, rowAt, place, streamCount, budget, streamsUpTo, streamsBefore, totalStreams, budgetsUpTo, firstBodyAt, bodyAt, contentsWords, period, deadline, cycle, OnSheet, Valid}
-use Rattle.model.proofs.Sheet.ValidSheet.{SheetFits, valid-fits, ticks-inside, counts-inside, times-inside}
+use Rattle.model.specs.Sheet.{word, nodes, rowAt, place, streamCount, budget, streamsUpTo, streamsBefore, totalStreams, budgetsUpTo, firstBodyAt, bodyAt, contentsWords, period, deadline, cycle, OnSheet}
+use Rattle.model.proofs.Sheet.ValidSheet.{SheetFits, ticks-inside, counts-inside, times-inside}
 use Rattle.model.proofs.Sheet.SheetOrder.{ordered-length, StreamAfter, stream-after}
-use Rattle.tables.specs.Tables.{Tables, tablesOf, nodeEntry, sumUpTo, sumOf, countsBefore, streamEntry}
+use Rattle.tables.specs.Tables.{Tables, tablesOf, nodeEntry, sumUpTo, sumOf, countsBefore}
 use Rattle.tables.specs.Writing.{rowOf, streamWordsOf, written, cycleOf, tablesRefusal}
 use Rattle.tables.proofs.WrittenWords.{row-follows, stream-follows, row-length, stream-length, written-length, written-nodes, written-message, written-slot, written-row, written-stream}
-use Rattle.tables.proofs.Passing.{ContentsFit, TablesFit, fit-passes}
+use Rattle.tables.proofs.Passing.{ContentsFit, fit-passes}
 use Rattle.tables.proofs.Reading.{node-value, stream-value}
 
 module _ (s : List ℕ) (fits : SheetFits s) where

@@ -1,8 +1,8 @@
 -- Where the words of a written sheet stand: header, contents rows, and the streams of all bodies one after the other.
 -- Assumes nothing.
-use Prim.Native.Nat.{ℕ, zero, suc, pred, _+_, _*_, _≤_, _<_}
+use Prim.Native.Nat.{ℕ, suc, pred, _+_, _*_, _≤_, _<_}
 use native.Mathlib.Omega.{arith}
-use mathlib.Core.Path.{_≡_, refl, sym, _∙_, ap}
+use mathlib.Core.Path.{_≡_, refl, _∙_, ap}
 use mathlib.Core.List.{List, _++_, append-assoc}
 use lib.ListN.{length, length-append, List·getD-append}
 use lib.Seq.{getD-append-add}

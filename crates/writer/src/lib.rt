@@ -4,7 +4,7 @@ ghost use mathlib.Core.List.{_++_};
 ghost use Prim.Native.Nat.{_*_, _≤_};
 ghost use lib.ListN.{length, drop};
 ghost use Rattle.tables.specs.Tables.{lentTables, sumOf};
-ghost use Rattle.tables.specs.Writing.{cycleOf, contentsRefusal, tablesRefusal, written, writeAnswer, writeBuffer, ReadsBack, WrittenAgain};
+ghost use Rattle.tables.specs.Writing.{cycleOf, contentsRefusal, written, writeAnswer, writeBuffer, ReadsBack, WrittenAgain};
 ghost use Rattle.model.specs.Limits.{maxNodes, maxStreams};
 ghost use Rattle.model.specs.Sheet.{bodyAt};
 

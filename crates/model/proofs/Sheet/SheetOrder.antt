@@ -5,8 +5,8 @@ use native.Mathlib.Omega.{arith}
 use mathlib.Core.Path.{_≡_, _∙_, ap}
 use mathlib.Core.List.{List}
 use lib.ListN.{length}
-use Rattle.theory.specs.Listing.{valuesFrom, joinedFrom}
-use Rattle.theory.proofs.Listing.{values-length, values-at, joined-length, joined-at, InOne, located}
+use Rattle.theory.specs.Listing.{valuesFrom}
+use Rattle.theory.proofs.Listing.{values-length, values-at, joined-length, joined-at, located}
 use Rattle.theory.proofs.Sums.{sumTo-none, sumTo-split}
 use Rattle.model.specs.Sheet.{word, nodes, streamCount, streamsBefore, totalStreams, runningNumber, inSheetOrder, OnSheet}
 

@@ -1,5 +1,5 @@
 -- `tables::sum_up_to` meets its contract: the sum so far is that of the nodes passed. Assumes nothing.
-use Prim.Native.Nat.{_≤_, _*_, _-_, _+_}
+use Prim.Native.Nat.{_≤_, _*_, _-_}
 use mathlib.Core.Path.{_≡_, sym, _∙_}
 use native.Mathlib.Omega.{arith}
 use borrow.Author.Needs.{needs}

@@ -3,7 +3,6 @@ use Prim.Native.Nat.{_*_}
 use mathlib.Core.Path.{_≡_, refl, sym, _∙_, ap}
 use mathlib.Core.List.{[]}
 use native.Mathlib.Omega.{arith}
-use lib.ListN.{length}
 use Rattle.tables.specs.Tables.{lentTables, sumUpTo, sumOf}
 use Rattle.tables.specs.Writing.{cycleOf}
 use Rattle.tables.proofs.Passing.{ContentsFit, contents-fit}

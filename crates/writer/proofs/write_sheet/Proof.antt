@@ -1,7 +1,7 @@
 -- `writer::write_sheet` meets its contract: each check's answer is the chain's where it refuses, and hands on to the next where it does not; and
 -- what is answered and written has the promises of reading and writing. Assumes nothing.
 use Prim.Native.Nat.{ℕ, _≤_}
-use mathlib.Core.Path.{_≡_, refl, sym, _∙_, ap, ap₂}
+use mathlib.Core.Path.{_≡_, refl, sym, _∙_, ap₂}
 use mathlib.Core.List.{List, _++_}
 use native.Mathlib.Omega.{arith}
 use lib.ListN.{length, drop}

@@ -1,6 +1,6 @@
 -- `writer::parts::write_bodies` meets its contract: the bodies passed stand after the contents, the rest is as it was. The next is written
 -- into the part that is lent from its place on. Assumes nothing.
-use Prim.Native.Nat.{ℕ, pred, _≤_, _<_, _*_, _-_, _+_}
+use Prim.Native.Nat.{ℕ, pred, _≤_, _*_, _-_, _+_}
 use mathlib.Core.Path.{_≡_, refl, sym, _∙_, ap, ap₂}
 use mathlib.Core.List.{List, _++_}
 use native.Mathlib.Omega.{arith}

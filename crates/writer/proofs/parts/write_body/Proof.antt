@@ -1,6 +1,6 @@
 -- `writer::parts::write_body` meets its contract: the streams passed stand at the front of the part, the rest is as it was. The words of the
 -- next go into the part that is lent from there on. Assumes nothing.
-use Prim.Native.Nat.{ℕ, _≤_, _<_, _*_, _-_, _+_}
+use Prim.Native.Nat.{ℕ, _≤_, _*_, _-_, _+_}
 use mathlib.Core.Path.{_≡_, refl, sym, _∙_, ap}
 use mathlib.Core.List.{List, [], _∷_, _++_}
 use native.Mathlib.Omega.{arith}

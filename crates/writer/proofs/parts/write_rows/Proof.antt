@@ -1,6 +1,6 @@
 -- `writer::parts::write_rows` meets its contract: the rows passed stand after the header, the rest is as it was, and the next body's place
 -- comes after the streams passed. Assumes nothing.
-use Prim.Native.Nat.{ℕ, pred, _≤_, _<_, _*_, _-_, _+_}
+use Prim.Native.Nat.{ℕ, pred, _≤_, _*_, _-_, _+_}
 use mathlib.Core.Path.{_≡_, refl, sym, _∙_, ap}
 use mathlib.Core.List.{List, [], _∷_, _++_}
 use native.Mathlib.Omega.{arith}
@@ -14,7 +14,7 @@ use Rattle.model.specs.Limits.{headerWords, rowWords, streamWords}
 use Rattle.model.specs.Sheet.{rowAt, bodyAt}
 use Rattle.tables.specs.Tables.{nodeEntry, sumUpTo}
 use Rattle.tables.specs.Writing.{rowOf}
-use Rattle.tables.proofs.WrittenWords.{row-length, rows-length}
+use Rattle.tables.proofs.WrittenWords.{rows-length}
 use Rattle.writer.proofs.parts.write_rows.Statement.{statement}
 use Rattle.writer.proofs.parts.write_rows.Tie as tie
 
