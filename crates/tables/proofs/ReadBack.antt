@@ -3,12 +3,12 @@
 use Prim.Native.Nat.{ℕ, pred, _+_, _*_, _≤_, _<_}
 use native.Mathlib.Nat.{add-zero}
 use native.Mathlib.Omega.{arith}
-use mathlib.Core.Path.{_≡_, refl, sym, _∙_, ap}
+use mathlib.Core.Path.{_≡_, refl, sym, _∙_, ap, ap₂}
 use mathlib.Core.List.{List}
 use lib.ListN.{length}
 use Rattle.theory.proofs.Sums.{sumTo-same, sumTo-split, sumTo-grows}
 use Rattle.model.specs.Limits.{streamWords}
-use Rattle.model.specs.Sheet.{word, nodes, rowAt, place, streamCount, budget, streamsUpTo, streamsBefore, totalStreams, budgetsUpTo, firstBodyAt, bodyAt, period, deadline, cycle, OnSheet, Valid}
+use Rattle.model.specs.Sheet.{word, nodes, messageTicks, slotTicks, rowAt, place, streamCount, budget, streamsUpTo, streamsBefore, totalStreams, budgetsUpTo, firstBodyAt, bodyAt, period, deadline, cycle, cycleTicks, OnSheet, Valid}
 use Rattle.model.proofs.Sheet.ValidSheet.{HeaderFits, RowFits, StreamFits, ticks-within, counts-within, times-within, fits-valid}
 use Rattle.tables.specs.Tables.{Tables, tablesOf, nodeEntry, sumUpTo, sumOf, countsBefore, streamEntry}
 use Rattle.tables.specs.Writing.{rowOf, streamWordsOf, written, cycleOf}
@@ -157,4 +157,5 @@ module _ (t : Tables) where
         let same = sumTo-same (budget w) (nodeEntry (t .budgets)) n budget-read in
         let sum : budgetsUpTo w (nodes w) ≡ sumOf (t .budgets) =
         ap (budgetsUpTo w) (written-nodes t) ∙ same ∙ ap (sumUpTo (t .budgets)) (sym (fit .contents .budgetsAll)) in
-        rw (sum, written-nodes t, written-message t, written-slot t) refl
+        ap₂ (λ budgets n. cycleTicks budgets (messageTicks w) n (slotTicks w)) sum (written-nodes t)
+        ∙ ap₂ (λ message slot. cycleTicks (sumOf (t .budgets)) message n slot) (written-message t) (written-slot t)

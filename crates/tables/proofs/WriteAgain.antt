@@ -4,14 +4,14 @@ use Prim.Native.Nat.{ℕ, zero, suc, pred, _+_, _-_, _*_, _≤_, _<_}
 use native.Mathlib.Nat.{add-zero}
 use native.Mathlib.Decide.{decLt}
 use native.Mathlib.Omega.{arith}
-use mathlib.Core.Path.{_≡_, refl, sym, _∙_, ap}
+use mathlib.Core.Path.{_≡_, sym, _∙_, ap, ap₂}
 use mathlib.Core.List.{List}
 use lib.ListN.{length}
 use lib.Seq.{ext-getD}
 use Rattle.theory.proofs.Listing.{values-length, located}
 use Rattle.theory.proofs.Sums.{sumTo-same}
 use Rattle.model.specs.Limits.{headerWords, rowWords, streamWords}
-use Rattle.model.specs.Sheet.{word, nodes, rowAt, place, streamCount, budget, streamsUpTo, streamsBefore, totalStreams, budgetsUpTo, firstBodyAt, bodyAt, contentsWords, period, deadline, cycle, OnSheet}
+use Rattle.model.specs.Sheet.{word, nodes, rowAt, place, streamCount, budget, streamsUpTo, streamsBefore, totalStreams, budgetsUpTo, firstBodyAt, bodyAt, contentsWords, period, deadline, cycle, cycleTicks, OnSheet}
 use Rattle.model.proofs.Sheet.ValidSheet.{SheetFits, ticks-inside, counts-inside, times-inside}
 use Rattle.model.proofs.Sheet.SheetOrder.{ordered-length, StreamAfter, stream-after}
 use Rattle.tables.specs.Tables.{Tables, tablesOf, nodeEntry, sumUpTo, sumOf, countsBefore}
@@ -172,4 +172,4 @@ module _ (s : List ℕ) (fits : SheetFits s) where
   -- and the same C.
   pub cycle-again : cycleOf (t .message) (t .slot) (t .counts) (t .budgets) ≡ cycle s
   unfolding cycle cycleOf
-  cycle-again = rw (sum-budgets, nodes-all) refl
+  cycle-again = ap₂ (λ budgets n. cycleTicks budgets (t .message) n (t .slot)) sum-budgets nodes-all
