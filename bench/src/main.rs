@@ -194,17 +194,59 @@ fn even_log(releases: u32, horizon: u32) -> Vec<u32> {
     (0..releases).flat_map(|i| [i * apart, 1 + i % 3]).collect()
 }
 
+/// Streams that release at their periods from tick 0 up to a horizon.
+fn periodic_log(periods: &[u32], horizon: u32) -> Vec<u32> {
+    let mut releases: Vec<(u32, u32)> = (1..)
+        .zip(periods)
+        .flat_map(|(stream, &period)| (0..horizon / period).map(move |i| (i * period, stream)))
+        .collect();
+    releases.sort();
+    releases
+        .iter()
+        .flat_map(|&(tick, stream)| [tick, stream])
+        .collect()
+}
+
+/// Three streams: messages and their slots take nine tenths of the time.
+fn replay_loaded() {
+    let busy = sheet(5, 1, &[(1, vec![(25, 25), (40, 40)]), (2, vec![(12, 12)])]);
+    let horizon = 22_800;
+    let log = periodic_log(&[25, 40, 12], horizon);
+    replay_pair("a bus loaded to nine tenths", &busy, &log, horizon);
+}
+
+/// A morning as on the van: sixteen nodes of four streams, whose messages and
+/// slots take two thirds of the time.
+fn replay_morning() {
+    let periods: Vec<u32> = (0..64).map(|i| 390 + 6 * i).collect();
+    let nodes: Vec<(u32, Vec<(u32, u32)>)> = periods
+        .chunks(4)
+        .map(|own| (2, own.iter().map(|&period| (period, period)).collect()))
+        .collect();
+    let mut log = periodic_log(&periods, 40_000);
+    log.truncate(2 * 4096);
+    let horizon = log[log.len() - 2] + 1_000;
+    replay_pair(
+        "a morning of 4,096 releases, sixteen nodes",
+        &sheet(5, 1, &nodes),
+        &log,
+        horizon,
+    );
+}
+
 /// All releases come at tick 0: to many nodes, so that most looks at a release
 /// pass it, and to one node, so that each look compares two streams.
 fn replay_backlogs() {
     let nodes: Vec<(u32, Vec<(u32, u32)>)> = (0..16).map(|_| (4, vec![(1000, 1000); 16])).collect();
-    let flood: Vec<u32> = (0..4096).flat_map(|i| [0, 1 + i % 256]).collect();
-    replay_pair(
-        "a backlog of 4,096 at tick 0, sixteen nodes",
-        &sheet(5, 1, &nodes),
-        &flood,
-        1_000_000,
-    );
+    for (releases, name) in [(256, "256"), (1024, "1,024"), (4096, "4,096")] {
+        let flood: Vec<u32> = (0..releases).flat_map(|i| [0, 1 + i % 256]).collect();
+        replay_pair(
+            &format!("a backlog of {name} at tick 0, sixteen nodes"),
+            &sheet(5, 1, &nodes),
+            &flood,
+            1_000_000,
+        );
+    }
     let mut random = Random(20_261_116);
     let mut near = |ticks: u32| ticks + random.below(1_000) as u32;
     let streams = (0..16).map(|_| (near(100_000), near(50_000))).collect();
@@ -213,6 +255,23 @@ fn replay_backlogs() {
         "a backlog of 1,024 at tick 0, one node of sixteen streams",
         &sheet(5, 1, &[(4, streams)]),
         &rivals,
+        1_000_000,
+    );
+    replay_longest();
+}
+
+/// The longest replay found: all wait for the last of sixteen nodes, which
+/// takes one a turn and the first release last, so that each turn of every
+/// node passes all of them.
+fn replay_longest() {
+    let mut nodes = vec![(1, vec![(1_000, 1_000)]); 15];
+    nodes.push((1, vec![(1_000, 900), (1_000, 1_000)]));
+    let mut log: Vec<u32> = [0, 16].repeat(4096);
+    log[1] = 17;
+    replay_pair(
+        "4,096 at tick 0 for one of sixteen nodes, budget 1",
+        &sheet(5, 1, &nodes),
+        &log,
         1_000_000,
     );
 }
@@ -227,19 +286,8 @@ fn replay() {
         &even_log(4096, far),
         far,
     );
-    // Three streams at their periods: messages and their slots take nine tenths of the time.
-    let busy = sheet(5, 1, &[(1, vec![(25, 25), (40, 40)]), (2, vec![(12, 12)])]);
-    let horizon = 22_800;
-    let mut loaded: Vec<(u32, u32)> = [(25, 1), (40, 2), (12, 3)]
-        .iter()
-        .flat_map(|&(period, stream)| (0..horizon / period).map(move |i| (i * period, stream)))
-        .collect();
-    loaded.sort();
-    let loaded: Vec<u32> = loaded
-        .iter()
-        .flat_map(|&(tick, stream)| [tick, stream])
-        .collect();
-    replay_pair("a bus loaded to nine tenths", &busy, &loaded, horizon);
+    replay_loaded();
+    replay_morning();
     replay_backlogs();
     for horizon in [1_000_000, 10_000_000, 100_000_000, far] {
         replay_pair(

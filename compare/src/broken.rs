@@ -1,10 +1,11 @@
 //! The proved library against variants of the second program that make the
-//! errors listed in document 01, go by a wrong rank, or write a sheet wrongly.
-//! Each of them has to differ somewhere.
+//! errors listed in document 01, go by a wrong rank, write a sheet wrongly, or
+//! start a search at a wrong place. Each of them has to differ somewhere.
 
 use peer::broken;
 use peer::generate::{case, tables_case, Case, TablesCase};
 
+use crate::step::{stepped_by_proved, stepped_by_second, Step};
 use crate::tally::Outcome;
 use crate::writer::{written_by_proved, written_by_second, Writer};
 use crate::{proved, second};
@@ -13,9 +14,10 @@ enum Entry {
     Admit(fn(&[u32], &mut [u32]) -> peer::Answer),
     Replay(fn(&[u32], &[u32], u32, &mut [u32]) -> peer::Answer),
     Write(Writer),
+    Step(Step),
 }
 
-const VARIANTS: [(&str, Entry); 19] = [
+const VARIANTS: [(&str, Entry); 21] = [
     (
         "1, releases counted by ceiling",
         Entry::Admit(broken::admit_by_ceiling),
@@ -92,6 +94,14 @@ const VARIANTS: [(&str, Entry); 19] = [
         "19, the room written before refusal 5 is found",
         Entry::Write(broken::write_before_streams),
     ),
+    (
+        "20, replay without what was left at the turn before",
+        Entry::Replay(broken::replay_starting_late),
+    ),
+    (
+        "21, step without what waits before a begun release",
+        Entry::Step(broken::step_after_last_begun),
+    ),
 ];
 
 /// For each variant, what the library and the variant give if they differ.
@@ -106,6 +116,7 @@ fn differences(
         wistorvan::raw::replay(sheet, log, horizon, room)
     });
     let write = written_by_proved(tables, room);
+    let step = stepped_by_proved(case);
     VARIANTS.each_ref().map(|(_, entry)| {
         let (good, bad) = match entry {
             Entry::Admit(entry) => (&admit, second(&case.room, |room| entry(sheet, room))),
@@ -114,6 +125,7 @@ fn differences(
                 second(&case.room, |room| entry(sheet, log, horizon, room)),
             ),
             Entry::Write(entry) => (&write, written_by_second(*entry, tables, room)),
+            Entry::Step(entry) => (&step, stepped_by_second(*entry, case)),
         };
         (*good != bad).then(|| (good.clone(), bad))
     })

@@ -5,6 +5,7 @@
 mod broken;
 mod far;
 mod programs;
+mod step;
 mod tally;
 mod writer;
 
@@ -13,6 +14,7 @@ use std::process::ExitCode;
 
 use peer::generate::{case, named, named_tables, tables_case, Case, TablesCase};
 use programs::{Programs, CHANGES};
+use step::{compare_step, compare_steps};
 use tally::{Outcome, Tally, EXPECTED, FAR};
 use writer::{compare_tables, compare_written_again};
 
@@ -32,10 +34,6 @@ const FAR_PROGRAMS: u64 = 400;
 /// So many generated cases must have all far numbers among them; fewer may
 /// leave them to the named cases.
 const FAR_CASES: u64 = 5_000;
-
-/// Longer replays are not run as single steps, each of which checks its whole
-/// input again.
-const STEPPED_TURNS: u32 = 200;
 
 /// Runs an entry of the second program on a copy of the room.
 fn second(room: &[u32], mut entry: impl FnMut(&mut [u32]) -> peer::Answer) -> Outcome {
@@ -119,61 +117,6 @@ fn compare_replay(tally: &mut Tally, name: &str, case: &Case) -> (Outcome, bool)
         _ => false,
     };
     (whole, far)
-}
-
-/// The step, which also leaves a record.
-fn compare_step(tally: &mut Tally, name: &str, case: &Case) {
-    let (sheet, log) = (&case.sheet, &case.log);
-    let r = case.record;
-    let mut ours = wistorvan::Bus {
-        tick: r.tick,
-        node: r.node,
-        turns: r.turns,
-    };
-    let mut theirs = r;
-    let mut mine = proved(&case.step_room, |room| {
-        wistorvan::raw::step(sheet, log, &mut ours, room)
-    });
-    mine.left.extend([ours.tick, ours.node, ours.turns]);
-    let mut other = second(&case.step_room, |room| {
-        peer::step(sheet, log, &mut theirs, room)
-    });
-    let words = other.left.iter().zip(&case.step_room);
-    let begins: Vec<u32> = words
-        .filter_map(|(new, old)| (new != old).then_some(*new))
-        .collect();
-    tally.reached("step", &[far::begin(&begins)]);
-    other.left.extend([theirs.tick, theirs.node, theirs.turns]);
-    tally.compare("step", name, case, &mine, &other);
-}
-
-/// The replay run as single steps from the start gives the same.
-fn compare_steps(tally: &mut Tally, name: &str, case: &Case, whole: &Outcome) {
-    if whole.answer.0 != 0 || whole.answer.1 > STEPPED_TURNS {
-        return;
-    }
-    let stepped = stepped(case, whole.answer.1);
-    tally.compare("replay as steps", name, case, &stepped, whole);
-}
-
-/// Ends at the horizon, at a step that is refused, or after one turn more than
-/// there should be: a step that refuses or stands still must not go on forever.
-fn stepped(case: &Case, turns: u32) -> Outcome {
-    let mut bus = wistorvan::Bus::START;
-    let mut left = case.room.clone();
-    left[..case.log.len() / 2].fill(wistorvan::NOT_BEGUN);
-    for _ in 0..=turns {
-        if bus.tick >= case.horizon {
-            break;
-        }
-        let a = wistorvan::raw::step(&case.sheet, &case.log, &mut bus, &mut left);
-        if a.number != 0 {
-            let answer = (a.number, a.second, a.third);
-            return Outcome { answer, left };
-        }
-    }
-    let answer = (0, bus.turns, bus.tick);
-    Outcome { answer, left }
 }
 
 /// The generated cases and tables and the named ones, some of the cases with

@@ -1,7 +1,9 @@
 //! The five errors that document 01 has seen in fitters' sheets, three wrong
-//! ranks and eight wrong writers, each made on purpose, so that a comparison
-//! can show that it catches them. All else is as in the good program.
+//! ranks, eight wrong writers and two wrong starting places, each made on
+//! purpose, so that a comparison can show that it catches them. All else is as
+//! in the good program.
 
+mod start;
 mod writer;
 
 use crate::admission::{last_try, late, listed, write_waits};
@@ -9,6 +11,7 @@ use crate::replay::{write_begins, Operation};
 use crate::sheet::{by_deadline, Bus, Rank, MOST_STREAMS_A_NODE};
 use crate::{admission, replay, success, Answer, NOT_BEGUN};
 
+pub use start::{replay_starting_late, step_after_last_begun};
 pub use writer::{
     write_any_deadlines, write_before_streams, write_bodies_swapped, write_one_place,
     write_past_the_sheet, write_room_before_streams, write_rows_swapped, write_short_cycle,
@@ -68,13 +71,14 @@ pub fn admit_writing_early(sheet: &[u32], room: &mut [u32]) -> Answer {
         Ok(bus) => bus,
         Err(answer) => return answer,
     };
-    for stream in 0..bus.streams().len() {
+    let streams = bus.streams().len();
+    for (stream, word) in room[..streams].iter_mut().enumerate() {
         match listed(&bus, stream) {
-            Some(found) => room[stream] = found.wait as u32,
+            Some(found) => *word = found.wait as u32,
             None => return late(&bus, stream),
         }
     }
-    success(bus.streams().len() as u64, bus.cycle())
+    success(streams as u64, bus.cycle())
 }
 
 /// Error 6: the old rank, by which no deadline counts.

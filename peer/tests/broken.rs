@@ -4,10 +4,11 @@ mod common;
 
 use common::*;
 use peer::generate::{case, Case};
-use peer::{admit, broken, check_sheet, replay, Answer};
+use peer::{admit, broken, check_sheet, replay, step, Answer, Record};
 
 type Admit = fn(&[u32], &mut [u32]) -> Answer;
 type Replay = fn(&[u32], &[u32], u32, &mut [u32]) -> Answer;
+type Step = fn(&[u32], &[u32], &mut Record, &mut [u32]) -> Answer;
 
 fn waits(entry: Admit, sheet: &[u32], streams: usize) -> (Answer, Vec<u32>) {
     let mut room = vec![OLD; streams];
@@ -138,6 +139,70 @@ fn tied_by_higher_number() {
     assert_eq!(begins(entry, &period, &log, 12), good);
 }
 
+#[test]
+fn starting_late() {
+    let entry = broken::replay_starting_late;
+    // Left over the budget at 0, so the turn at 6 is silent.
+    let log = [0, 1, 0, 2];
+    let good = (answer(0, 2, 12), vec![0, 6]);
+    assert_eq!(begins(replay, &SHEET_P7, &log, 12), good);
+    let missed = (answer(0, 7, 12), vec![0, NOT_BEGUN]);
+    assert_eq!(begins(entry, &SHEET_P7, &log, 12), missed);
+    // Left because the turn at 0 is node 1's.
+    let good = (answer(0, 2, 7), vec![1]);
+    assert_eq!(begins(replay, &SHEET_A, &[0, 3], 5), good);
+    let missed = (answer(0, 5, 5), vec![NOT_BEGUN]);
+    assert_eq!(begins(entry, &SHEET_A, &[0, 3], 5), missed);
+    // Right where each comes after the start of the turn before: 0, 1 and 7.
+    let log = [1, 3, 2, 1, 8, 3];
+    let good = begins(replay, &SHEET_A, &log, 20);
+    assert_eq!(good.1, [1, 7, 13]);
+    assert_eq!(begins(entry, &SHEET_A, &log, 20), good);
+}
+
+/// A step from tick 10 of node 2 of sheet A, which takes up to two.
+fn turn(entry: Step, log: &[u32], room: &[u32]) -> (Answer, Record, Vec<u32>) {
+    let mut record = Record {
+        tick: 10,
+        node: 2,
+        turns: 4,
+    };
+    let mut room = room.to_vec();
+    let given = entry(&SHEET_A, log, &mut record, &mut room);
+    (given, record, room)
+}
+
+#[test]
+fn after_last_begun() {
+    let entry = broken::step_after_last_begun;
+    let log = [0, 3, 0, 1, 0, 3, 20, 3];
+    let after = |tick| Record {
+        tick,
+        node: 1,
+        turns: 5,
+    };
+    let room = [NOT_BEGUN, 5, NOT_BEGUN, NOT_BEGUN];
+    let good = (answer(0, 2, 21), after(21), vec![10, 5, 15, NOT_BEGUN]);
+    assert_eq!(turn(step, &log, &room), good);
+    let missed = vec![NOT_BEGUN, 5, 10, NOT_BEGUN];
+    let missed = (answer(0, 1, 16), after(16), missed);
+    assert_eq!(turn(entry, &log, &room), missed);
+    // With the last one begun there is nothing left.
+    let room = [NOT_BEGUN, 5, NOT_BEGUN, 0];
+    let missed = (answer(0, 0, 11), after(11), room.to_vec());
+    assert_eq!(turn(entry, &log, &room), missed);
+    // Right if none has begun, if none waits before one that has, if the room
+    // goes on past the log, and if it is too short.
+    for room in [
+        &[NOT_BEGUN; 4][..],
+        &[3, 5, NOT_BEGUN, NOT_BEGUN],
+        &[NOT_BEGUN, NOT_BEGUN, NOT_BEGUN, NOT_BEGUN, OLD],
+        &[NOT_BEGUN, 5, OLD],
+    ] {
+        assert_eq!(turn(entry, &log, room), turn(step, &log, room));
+    }
+}
+
 /// Makes of deadline, period and number what the streams of a node go by.
 type Key = fn(u32, u32, u32) -> (u32, u32, u32);
 
@@ -175,6 +240,20 @@ fn replays_differ(bad: Replay, case: &Case) -> bool {
     given(replay) != given(bad)
 }
 
+fn steps_differ(bad: Step, case: &Case) -> bool {
+    let given = |entry: Step| {
+        let (mut record, mut room) = (case.record, case.step_room.clone());
+        let given = entry(&case.sheet, &case.log, &mut record, &mut room);
+        (given, record, room)
+    };
+    given(step) != given(bad)
+}
+
+/// Whether some release waits before one that has begun.
+fn has_hole(room: &[u32]) -> bool {
+    !room.is_sorted_by_key(|&word| word == NOT_BEGUN)
+}
+
 /// Of 2,000 generated cases.
 fn count(differ: impl Fn(&Case) -> bool) -> usize {
     let cases = (0..2_000).map(|index| case(1, index));
@@ -194,6 +273,17 @@ fn listed_errors_on_generated_cases() {
     let least = [5, 70, 80, 400, 70];
     let mut pairs = errors.iter().zip(least);
     assert!(pairs.all(|(&cases, least)| cases >= least), "{errors:?}");
+}
+
+#[test]
+fn wrong_starts_on_generated_cases() {
+    let replays = count(|case| replays_differ(broken::replay_starting_late, case));
+    let steps = count(|case| {
+        let differ = steps_differ(broken::step_after_last_begun, case);
+        assert!(!differ || has_hole(&case.step_room));
+        differ
+    });
+    assert!(replays >= 250 && steps >= 300, "{replays} {steps}");
 }
 
 /// How often the two entries with one wrong rank differ from the good ones.

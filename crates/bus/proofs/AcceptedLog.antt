@@ -1,10 +1,9 @@
--- What an accepted log gives: its ticks never fall, and so those after a tick are the log's last. Assumes nothing.
-use Prim.Native.Nat.{ℕ, suc, _≤_, _<_}
+-- What an accepted log gives: its ticks never fall. Assumes nothing.
+use Prim.Native.Nat.{ℕ, suc, _≤_}
 use mathlib.Core.Path.{_≡_}
 use mathlib.Core.Bool.{_||_}
 use mathlib.Core.List.{List}
 use native.Mathlib.Nat.{suc-ne-zero}
-use native.Mathlib.Decide.{le-ind}
 use native.Mathlib.Omega.{arith}
 use lib.Dec.{ltb}
 use borrow.Author.Tests.{ltb-false}
@@ -15,7 +14,7 @@ use Rattle.model.specs.Protocol.{releases, releaseTick, releaseStream}
 use Rattle.model.specs.Answers.{tickBefore, releaseRefusal, logRefusal}
 use Rattle.model.proofs.Sheet.Refusals.{orElse-both, refuseIf-none, first-none}
 use Rattle.theory.proofs.Tests.{or-neither}
-use Rattle.bus.specs.Queue.{Rising}
+use Rattle.queue.specs.Queue.{Rising}
 
 -- A release with no fault is not before the one before it.
 release-rises : (s log : List ℕ) (i : ℕ)
@@ -37,20 +36,3 @@ log-rises s log e i there =
     let many = orElse-both (refuseIf (ltb maxReleases (releases log)) (refuse 9 0 0)) _ (odd .1) in
     release-rises s log i
     (first-none (releaseRefusal s log) 1 (releases log) (many .1) (suc (suc i)) (omega arith) (omega arith))
-
--- Where ticks never fall, all releases from one on that is after a tick are after it.
-pub rises-on : (log : List ℕ) {tick from : ℕ}
-    → tick < releaseTick log from
-    → Rising log
-    → (i : ℕ)
-    → from ≤ i
-    → i < releases log
-    → tick < releaseTick log i
-rises-on log {tick} late rising i after inLog =
-    le-ind
-    (λ m. m < releases log → tick < releaseTick log m)
-    (λ _. late)
-    (λ m _ ih there. omega (arith, ih (omega arith), rising m there))
-    i
-    after
-    inLog

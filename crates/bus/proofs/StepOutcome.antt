@@ -12,7 +12,7 @@ use Rattle.model.specs.Protocol.{serveTurn, nextBus}
 use Rattle.model.specs.Answers.{stepRefusal, stepAnswer, stepBus, stepBuffer}
 use Rattle.model.proofs.Sheet.Refusals.{orElse-on, orElse-stop}
 use Rattle.model.proofs.Answers.NotRefused.{StepAccepted}
-use Rattle.bus.specs.Queue.{ValidNode}
+use Rattle.queue.specs.Queue.{ValidNode}
 
 -- A step that is not refused is of a node of the sheet.
 pub step-node : {s log : List ℕ} {bus : Bus} {room : ℕ} → StepAccepted s log bus room → ValidNode s (bus .node)

@@ -8,12 +8,13 @@ use log::check_step;
 use model::Answer;
 use model::Bus;
 use queue::arrived_by;
+use queue::next_unbegun;
 use turns::clear;
+use turns::header_of;
 use turns::next_bus;
 use turns::run_to;
 use turns::run_turn;
 
-mod queue; // queue.rt: who is the first of the releases that wait
 mod turns; // turns.rt: one turn, and the run of turns to a horizon
 
 // What one step answers, and the bus record after it.
@@ -35,9 +36,12 @@ pub fn turn(sheet: &[u32], log: &[u32], bus: Bus, room: &mut [u32]) -> Turned
             bus,
         };
     }
-    let arrived = arrived_by(log, bus.tick, 0);
-    let taken = run_turn(sheet, log, bus, arrived, room);
-    let next = next_bus(sheet, bus, taken);
+    let from = next_unbegun(&room[..], 0, log.len() / 2);
+    let to = arrived_by(log, bus.tick, 0);
+    let header = header_of(sheet);
+    let mut found: [usize; 16] = [0; 16];
+    let taken = run_turn(sheet, header, log, bus, from, to, &mut found[..], room);
+    let next = next_bus(sheet, header, bus, taken);
     Turned {
         answer: Answer {
             number: 0,
@@ -59,7 +63,8 @@ pub fn replay(sheet: &[u32], log: &[u32], horizon: u32, room: &mut [u32]) -> Ans
         return refusal;
     }
     clear(room, log.len() / 2);
-    let end = run_to(sheet, log, horizon, room);
+    let mut found: [usize; 16] = [0; 16];
+    let end = run_to(sheet, log, horizon, &mut found[..], room);
     Answer {
         number: 0,
         second: end.turns,

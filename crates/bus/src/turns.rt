@@ -6,61 +6,90 @@ ghost use lib.ListN.{length, take, drop, replicate};
 ghost use Rattle.model.specs.Limits.{maxTime, maxBudget, maxSlotTicks, notBegun};
 ghost use Rattle.model.specs.Sheet.{slotTicks, Valid};
 ghost use Rattle.model.specs.Idle.{idleBus, silentTurns, SilentBefore};
-ghost use Rattle.model.specs.Protocol.{releases, serveTurn, nextNode, nextBus, replayed};
-ghost use Rattle.bus.specs.Queue.{ValidNode, Rising, Arrived, NextEvent};
-use crate::queue::arrived_by;
-use crate::queue::begun_before;
-use crate::queue::first_waiting;
+ghost use Rattle.model.specs.Protocol.{releases, beginsFrom, serveTurn, nextNode, nextBus, replayed};
+ghost use Rattle.queue.specs.Queue.{ValidNode, Rising, Arrived, FirstUnbegun};
+ghost use Rattle.bus.specs.Turns.{headerAs, AllBelow, NextEvent};
 use model::Bus;
+use queue::arrived_by;
+use queue::look;
+use queue::next_unbegun;
 
-// The record's turn, with the first `to` releases arrived: writes the begin ticks of the messages that it takes, and answers how
-// many those are.
-pub fn run_turn(sheet: &[u32], log: &[u32], bus: Bus, to: usize, room: &mut [u32]) -> u32
-    requires { ⌜ ValidNode (now sheet) (bus .node) × (bus .tick ≤ maxTime) × (releases (now log) ≤ length (now room)) ⌝ }
-    requires { ⌜ Arrived (now log) (bus .tick) to ⌝ }
-    ensures taken { λ r. ⌜ r ≡ serveTurn (now (sheet .entry)) (now (log .entry)) bus (now (room .entry)) .taken ⌝ }
-    ensures begins { λ r. ⌜ now (room .exit) ≡ serveTurn (now (sheet .entry)) (now (log .entry)) bus (now (room .entry)) .begins ⌝ }
+// The sheet's first three words, read once for all turns: n, TMS and TPR.
+pub struct Header {
+    pub nodes: u32,
+    pub message: u32,
+    pub slot: u32,
+}
+
+// The header of a sheet.
+pub fn header_of(sheet: &[u32]) -> Header
+    ensures { λ r. ⌜ r ≡ headerAs (now (sheet .entry)) ⌝ }
 {
-    let node = bus.node;
-    let tick = bus.tick;
-    let budget = layout::budget_of(sheet, node);
-    let message = layout::word_at(sheet, 1);
-    let count = log.len() / 2;
+    Header {
+        nodes: layout::word_at(sheet, 0),
+        message: layout::word_at(sheet, 1),
+        slot: layout::word_at(sheet, 2),
+    }
+}
+
+// The messages at the first `count` places begin one after the other, the first of them at a tick.
+fn begin_messages(message: u32, tick: u32, places: &[usize], count: usize, room: &mut [u32])
+    requires { ⌜ (count ≤ maxBudget) × (count ≤ length (now places)) × (message ≤ maxSlotTicks) × (tick ≤ maxTime) ⌝ }
+    requires { ⌜ AllBelow (length (now room)) (take count (now places)) ⌝ }
+    ensures { λ _. ⌜ now (room .exit) ≡ beginsFrom message tick (take count (now (places .entry))) (now (room .entry)) ⌝ }
+{
     let mut begin = tick;
-    let mut j: u32 = 0;
-    while j < budget {
-        let i = first_waiting(sheet, log, node, tick, to, &room[..]);
-        if count <= i {
-            return j;
-        }
-        room[i] = begin;
+    let mut j: usize = 0;
+    while j < count {
+        let at = places[j];
+        room[at] = begin;
         begin += message;
         j += 1;
     }
-    j
+}
+
+// The record's turn, with the first `to` releases arrived and the first one that has not begun at `from`: looks once at the queue and
+// writes the begin ticks of the messages that it takes. Answers how many those are.
+pub fn run_turn(
+    sheet: &[u32],
+    header: Header,
+    log: &[u32],
+    bus: Bus,
+    from: usize,
+    to: usize,
+    found: &mut [usize],
+    room: &mut [u32],
+) -> u32
+    requires { ⌜ ValidNode (now sheet) (bus .node) × (bus .tick ≤ maxTime) × (releases (now log) ≤ length (now room)) × (maxBudget ≤ length (now found)) ⌝ }
+    requires { ⌜ (header ≡ headerAs (now sheet)) × FirstUnbegun (now log) (now room) from × Arrived (now log) (bus .tick) to ⌝ }
+    ensures taken { λ r. ⌜ r ≡ serveTurn (now (sheet .entry)) (now (log .entry)) bus (now (room .entry)) .taken ⌝ }
+    ensures begins { λ r. ⌜ now (room .exit) ≡ serveTurn (now (sheet .entry)) (now (log .entry)) bus (now (room .entry)) .begins ⌝ }
+{
+    let taken = look(sheet, log, bus.node, bus.tick, from, to, &room[..], found);
+    begin_messages(header.message, bus.tick, &found[..], taken, room);
+    taken as u32
 }
 
 // The node after k.
-fn next_node(sheet: &[u32], k: u32) -> u32
-    requires { ⌜ ValidNode (now sheet) k ⌝ }
+fn next_node(sheet: &[u32], header: Header, k: u32) -> u32
+    requires { ⌜ ValidNode (now sheet) k × (header ≡ headerAs (now sheet)) ⌝ }
     ensures { λ r. ⌜ r ≡ nextNode (now (sheet .entry)) k ⌝ }
 {
-    if k == layout::word_at(sheet, 0) {
+    if k == header.nodes {
         return 1;
     }
     k + 1
 }
 
 // The record after a turn that took so many messages.
-pub fn next_bus(sheet: &[u32], bus: Bus, taken: u32) -> Bus
-    requires { ⌜ ValidNode (now sheet) (bus .node) × (bus .tick ≤ maxTime) × (bus .turns ≤ maxTime) × (taken ≤ maxBudget) ⌝ }
+pub fn next_bus(sheet: &[u32], header: Header, bus: Bus, taken: u32) -> Bus
+    requires { ⌜ ValidNode (now sheet) (bus .node) × (header ≡ headerAs (now sheet)) ⌝ }
+    requires { ⌜ (bus .tick ≤ maxTime) × (bus .turns ≤ maxTime) × (taken ≤ maxBudget) ⌝ }
     ensures { λ r. ⌜ r ≡ nextBus (now (sheet .entry)) bus taken ⌝ }
 {
-    let node = next_node(sheet, bus.node);
-    let message = layout::word_at(sheet, 1);
-    let slot = layout::word_at(sheet, 2);
+    let node = next_node(sheet, header, bus.node);
     Bus {
-        tick: bus.tick + taken * message + slot,
+        tick: bus.tick + taken * header.message + header.slot,
         node,
         turns: bus.turns + 1,
     }
@@ -101,25 +130,30 @@ fn silent_turns(slot: u32, tick: u32, until: u32) -> u32
 }
 
 // The silent turns that start before a tick, taken at once: the record after them.
-fn pass_idle(sheet: &[u32], bus: Bus, until: u32) -> Bus
-    requires { ⌜ ValidNode (now sheet) (bus .node) × (bus .tick < until) × (until ≤ maxTime) × (bus .turns ≤ bus .tick) ⌝ }
+fn pass_idle(sheet: &[u32], header: Header, bus: Bus, until: u32) -> Bus
+    requires { ⌜ ValidNode (now sheet) (bus .node) × (header ≡ headerAs (now sheet)) ⌝ }
+    requires { ⌜ (bus .tick < until) × (until ≤ maxTime) × (bus .turns ≤ bus .tick) ⌝ }
     ensures { λ r. ⌜ r ≡ idleBus (now (sheet .entry)) bus (silentTurns (slotTicks (now (sheet .entry))) (bus .tick) until) ⌝ }
 {
-    let n = layout::word_at(sheet, 0);
-    let slot = layout::word_at(sheet, 2);
-    let turns = silent_turns(slot, bus.tick, until);
+    let turns = silent_turns(header.slot, bus.tick, until);
     Bus {
-        tick: bus.tick + turns * slot,
-        node: (bus.node - 1 + turns) % n + 1,
+        tick: bus.tick + turns * header.slot,
+        node: (bus.node - 1 + turns) % header.nodes + 1,
         turns: bus.turns + turns,
     }
 }
 
-// The turns that start before the horizon, from tick 0 with nothing sent. While all that has come has begun, the bus only passes
-// protocol slots up to the next release, and those turns are taken at once. Writes the begin ticks, and answers the record after
-// the last.
-pub fn run_to(sheet: &[u32], log: &[u32], horizon: u32, room: &mut [u32]) -> Bus
-    requires { ⌜ Valid (now sheet) × Rising (now log) × (horizon ≤ maxTime) × (releases (now log) ≤ length (now room)) ⌝ }
+// The turns that start before the horizon, from tick 0 with nothing sent. The search of each starts at `from`, the first release that has
+// not begun, which only moves on. While all that has come has begun, the bus only passes protocol slots up to the next release, and those
+// turns are taken at once. Writes the begin ticks, and answers the record after the last; `found` is for those that a turn takes.
+pub fn run_to(
+    sheet: &[u32],
+    log: &[u32],
+    horizon: u32,
+    found: &mut [usize],
+    room: &mut [u32],
+) -> Bus
+    requires { ⌜ Valid (now sheet) × Rising (now log) × (horizon ≤ maxTime) × (releases (now log) ≤ length (now room)) × (maxBudget ≤ length (now found)) ⌝ }
     requires { ⌜ take (releases (now log)) (now room) ≡ replicate (releases (now log)) notBegun ⌝ }
     ensures record { λ r. ⌜ r ≡ replayed (now (sheet .entry)) (now (log .entry)) horizon .bus ⌝ }
     ensures begins { λ r. ⌜ now (room .exit) ≡ replayed (now (sheet .entry)) (now (log .entry)) horizon .begins ++ drop (releases (now (log .entry))) (now (room .entry)) ⌝ }
@@ -129,17 +163,19 @@ pub fn run_to(sheet: &[u32], log: &[u32], horizon: u32, room: &mut [u32]) -> Bus
         node: 1,
         turns: 0,
     };
+    let header = header_of(sheet);
+    let count = log.len() / 2;
     let mut from: usize = 0;
     let mut to: usize = 0;
     while bus.tick < horizon {
+        from = next_unbegun(&room[..], from, count);
         to = arrived_by(log, bus.tick, to);
-        from = begun_before(&room[..], from, to);
-        if from == to {
+        if to <= from {
             let until = next_event(log, horizon, bus.tick, to);
-            bus = pass_idle(sheet, bus, until);
+            bus = pass_idle(sheet, header, bus, until);
         } else {
-            let taken = run_turn(sheet, log, bus, to, room);
-            bus = next_bus(sheet, bus, taken);
+            let taken = run_turn(sheet, header, log, bus, from, to, found, room);
+            bus = next_bus(sheet, header, bus, taken);
         }
     }
     bus

@@ -5,6 +5,7 @@ ghost use Prim.Native.Nat.{pred, _+_, _*_, _/_, _<_, _^_};
 ghost use Rattle.model.specs.Limits.{streamWords};
 ghost use Rattle.model.specs.Sheet.{word, rowAt, place, streamCount, budget, streamsUpTo, firstBodyAt, contentsWords};
 ghost use Rattle.model.specs.Analysis.{streamIn, streamOf};
+ghost use Rattle.layout.specs.Rows.{rowAs};
 use model::Stream;
 
 // A word as an index.
@@ -47,6 +48,32 @@ pub fn budget_of(sheet: &[u32], k: u32) -> u32
     ensures { λ r. ⌜ r ≡ budget (now (sheet .entry)) k ⌝ }
 {
     word_at(sheet, row_at(k) + 2)
+}
+
+// A contents row: where the node's body stands, how many streams it has, and its budget.
+pub struct Row {
+    pub place: u32,
+    pub streams: u32,
+    pub budget: u32,
+}
+
+// The contents row of node k, in one look; 0 past the end.
+pub fn row_of(sheet: &[u32], k: u32) -> Row
+    ensures { λ r. ⌜ r ≡ rowAs (now (sheet .entry)) k ⌝ }
+{
+    let at = row_at(k);
+    if sheet.len() <= at + 2 {
+        return Row {
+            place: word_at(sheet, at),
+            streams: word_at(sheet, at + 1),
+            budget: 0,
+        };
+    }
+    Row {
+        place: sheet[at],
+        streams: sheet[at + 1],
+        budget: sheet[at + 2],
+    }
 }
 
 // Where stream j stands in a body at `body`.

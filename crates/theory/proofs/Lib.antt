@@ -9,6 +9,8 @@ pub mod Overwriting
 pub mod Places
 pub mod First
 pub mod FirstOnes
+pub mod Insertion
+pub mod OnePass
 pub mod Arrivals
 pub mod Line
 pub mod Window

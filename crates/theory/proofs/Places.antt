@@ -5,7 +5,7 @@ use mathlib.Core.Logic.{_⊎_, inl, inr}
 use mathlib.Core.List.{List, [], _∷_}
 use native.Mathlib.Decide.{ℕ-discrete}
 use native.Mathlib.Omega.{arith}
-use lib.ListN.{length}
+use lib.ListN.{length, getD}
 use Rattle.theory.proofs.Counting.{count, count-yes, count-no, count-witness, count-cover}
 
 -- Place p of a list, counted from 0, has x.
@@ -18,6 +18,12 @@ pub at-place : (xs : List ℕ) (p : ℕ) → p < length xs → (x : ℕ) × At x
 at-place [] p h = absurd (omega arith)
 at-place (x ∷ xs) zero h = (x, here)
 at-place (x ∷ xs) (suc p) h = let w = at-place xs p (omega arith) in (w .0, later (w .1))
+
+-- It is the word there.
+pub at-word : (xs : List ℕ) (p : ℕ) → p < length xs → At xs p (getD xs p 0)
+at-word [] p h = absurd (omega arith)
+at-word (x ∷ xs) zero h = here
+at-word (x ∷ xs) (suc p) h = later (at-word xs p (omega arith))
 
 -- And a place that has one is a place of the list.
 pub at-below : {xs : List ℕ} {p x : ℕ} → At xs p x → p < length xs

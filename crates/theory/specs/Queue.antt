@@ -1,8 +1,10 @@
 -- A queue: who waits of a collection, in some order, and the first ones of it. Assumes nothing.
-use Prim.Native.Nat.{ℕ, zero, suc}
+use Prim.Native.Nat.{ℕ, zero, suc, _<_}
+use mathlib.Core.Path.{_≡_}
 use mathlib.Core.Bool.{Bool, true, false, cond, not, _||_, _&&_}
 use mathlib.Core.List.{List, [], _∷_}
 use lib.Dec.{ltb, eqb}
+use lib.ListN.{length, getD}
 
 -- The first of a collection in an order: of the numbers below `count` for which the test holds, the one before all others;
 -- `none` where it holds for none.
@@ -35,3 +37,12 @@ firstOnes (suc most) q =
       | true ↦ i ∷ firstOnes most (without i q)
       | false ↦ []
     ]
+
+-- A line with i put in before the first that it comes before, or at its end.
+unfoldable pub inserted : (ℕ → ℕ → Bool) → ℕ → List ℕ → List ℕ
+inserted before i [] = i ∷ []
+inserted before i (x ∷ xs) = cond (before i x) (i ∷ x ∷ xs) (x ∷ inserted before i xs)
+
+-- A line in order: each comes before all that stand after it.
+abbrev pub InOrder : (ℕ → ℕ → Bool) → List ℕ → Type 0
+InOrder before xs = (p r : ℕ) → p < r → r < length xs → before (getD xs p 0) (getD xs r 0) ≡ true

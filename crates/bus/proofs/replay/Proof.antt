@@ -36,13 +36,16 @@ checked c =
 clear-requires : tie.Need-clear-requires
 clear-requires c κs = checked (c .before) .roomFor
 
+slice-aggregate-run-to : tie.Need-slice-aggregate-run-to
+slice-aggregate-run-to c = search needs
+
 run-to-requires : tie.Need-run-to-requires
 run-to-requires c κs =
-    let a = c .before .before .before .before .before .before .before .before .before .before .before .args in
+    let a = c .before .before .before .before .before .before .before .before .before .before .before .before .args in
     let n = releases (a .log .now) in
-    let ok = checked (c .before .before .before .before .before) in
-    let clear = c .before .before .before .clear in (
-      (ok .valid, log-rises _ _ (ok .logged), ok .horizonTo, omega (arith, ok .roomFor, clear .kept .0)),
+    let ok = checked (c .before .before .before .before .before .before) in
+    let clear = c .before .before .before .before .clear in (
+      (ok .valid, log-rises _ _ (ok .logged), ok .horizonTo, omega (arith, ok .roomFor, clear .kept .0), omega arith),
       rw (clear .ensures) (take-at (replicate n notBegun) (drop n (a .room .now)) n (length-replicate n notBegun)),
     )
 
@@ -51,15 +54,15 @@ same-length c = search needs
 
 returns-2 : tie.Need-returns-2
 returns-2 c =
-    let a = c .before .before .before .before .before .before .before .before .before .before .before .before .before .before .args in
+    let a = c .before .before .before .before .before .before .before .before .before .before .before .before .before .before .before .before .args in
     let n = releases (a .log .now) in
-    let end = c .before .before .run-to .ensures in
+    let end = c .before .before .before .run-to .ensures in
     let rest = drop-at (replicate n notBegun) (drop n (a .room .now)) n (length-replicate n notBegun) in
-    let words = rw (c .before .before .before .before .before .before .clear .ensures, rest) at (end .1) in
-    let outcome = replay-done (a .sheet .now) (a .log .now) (a .horizon) (a .room .now) (none (c .before .before .before .before .before .before .before .before)) (end .0) words in
+    let words = rw (c .before .before .before .before .before .before .before .before .clear .ensures, rest) at (end .1) in
+    let outcome = replay-done (a .sheet .now) (a .log .now) (a .horizon) (a .room .now) (none (c .before .before .before .before .before .before .before .before .before .before)) (end .0) words in
     (outcome .answered, (outcome .written, outcome-demand _ _ _ _ outcome))
 
 pub replay-spec : {M : Type 1} → statement M
 replay-spec =
     tie.close
-    (tie.spec check-replay-requires returns clear-requires run-to-requires same-length returns-2)
+    (tie.spec check-replay-requires returns clear-requires slice-aggregate-run-to run-to-requires same-length returns-2)

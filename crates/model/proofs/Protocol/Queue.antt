@@ -5,10 +5,10 @@ use native.Mathlib.Decide.{decLt}
 use native.Mathlib.Omega.{arith}
 use mathlib.Core.Path.{_≡_}
 use mathlib.Core.Logic.{_↔_, _⊎_}
-use mathlib.Core.Bool.{Bool, true}
+use mathlib.Core.Bool.{Bool, true, false, and-false}
 use mathlib.Core.List.{List}
 use lib.Dec.{leb, ltb}
-use borrow.Author.Tests.{ltb-true, lt-ltb, leb-true, le-leb}
+use borrow.Author.Tests.{ltb-true, lt-ltb, le-ltb, leb-true, le-leb, lt-leb}
 use Rattle.model.specs.Sheet.{streamCount, streamsBefore, streamsUpTo}
 use Rattle.model.specs.Analysis.{streamOf, outranks}
 use Rattle.model.specs.Protocol.{releaseStream, ofNode, queuedBefore}
@@ -24,6 +24,16 @@ unfolding ofNode
 ofNode-reading s k r =
     let both = and-reading (ltb (streamsBefore s k) r) (leb r (streamsUpTo s k)) in
     (λ e. (ltb-true _ _ (both .0 e .0), leb-true _ _ (both .0 e .1)), λ h. both .1 (lt-ltb _ _ (h .0), le-leb _ _ (h .1)))
+
+-- It is not where it is not above those of the nodes before,
+pub ofNode-below : (s : List ℕ) (k r : ℕ) → r ≤ streamsBefore s k → ofNode s k r ≡ false
+unfolding ofNode
+ofNode-below s k r low = rw (le-ltb (streamsBefore s k) r low)
+
+-- or above its last.
+pub ofNode-above : (s : List ℕ) (k r : ℕ) → streamsUpTo s k < r → ofNode s k r ≡ false
+unfolding ofNode
+ofNode-above s k r high = rw (lt-leb r (streamsUpTo s k) high, and-false)
 
 -- A stream is of one node only.
 pub node-once : (s : List ℕ) (k n r : ℕ) → 1 ≤ k → 1 ≤ n → ofNode s k r ≡ true → ofNode s n r ≡ true → n ≡ k

@@ -4,9 +4,9 @@ use mathlib.Core.Path.{_≡_}
 use mathlib.Core.Bool.{Bool, true, false, _&&_, and-false, and-eq-true-iff}
 use mathlib.Core.List.{List}
 use lib.Dec.{leb, eqb}
-use borrow.Author.Tests.{leb-true, le-leb, lt-leb, le-ltb, eqb-true, eq-eqb, ne-eqb}
+use borrow.Author.Tests.{leb-true, le-leb, lt-leb, eqb-true, eq-eqb, ne-eqb}
 use Rattle.model.specs.Limits.{notBegun}
-use Rattle.model.specs.Sheet.{word, streamsBefore, streamsUpTo}
+use Rattle.model.specs.Sheet.{word}
 use Rattle.model.specs.Protocol.{releaseTick, releaseStream, ofNode, waiting}
 
 -- Release i is in node k's queue at a tick, in plain facts.
@@ -46,15 +46,10 @@ module _ (s log : List ℕ) (k tick : ℕ) (begins : List ℕ) where
   unfolding waiting
   waiting-later i late = rw (lt-leb (releaseTick log i) tick late)
 
-  -- A release of a node before does not wait.
-  pub waiting-below : (i : ℕ) → releaseStream log i ≤ streamsBefore s k → waiting s log k tick begins i ≡ false
-  unfolding waiting ofNode
-  waiting-below i low = rw (le-ltb (streamsBefore s k) (releaseStream log i) low, and-false)
-
-  -- A release of a node after does not wait.
-  pub waiting-above : (i : ℕ) → streamsUpTo s k < releaseStream log i → waiting s log k tick begins i ≡ false
-  unfolding waiting ofNode
-  waiting-above i high = rw (lt-leb (releaseStream log i) (streamsUpTo s k) high, and-false, and-false)
+  -- A release of another node does not wait.
+  pub waiting-other : (i : ℕ) → ofNode s k (releaseStream log i) ≡ false → waiting s log k tick begins i ≡ false
+  unfolding waiting
+  waiting-other i other = rw (other, and-false)
 
   -- Only the release's own word matters.
   pub waiting-same : (after : List ℕ) (i : ℕ)

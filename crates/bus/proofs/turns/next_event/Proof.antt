@@ -7,7 +7,7 @@ use native.Mathlib.Nat.{le-refl}
 use native.Mathlib.Omega.{arith}
 use borrow.Author.Needs.{needs}
 use Rattle.model.specs.Protocol.{releases, releaseTick}
-use Rattle.bus.specs.Queue.{Rising}
+use Rattle.queue.specs.Queue.{Rising}
 use Rattle.bus.proofs.turns.next_event.Statement.{statement}
 use Rattle.bus.proofs.turns.next_event.Tie as tie
 

@@ -1,0 +1,2 @@
+-- What a contract of the layout cites beside document 01's definitions.
+pub mod Rows

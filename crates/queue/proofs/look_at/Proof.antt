@@ -1,0 +1,86 @@
+-- `queue::look_at` meets its contract: past the two tests the release is one of the node's. Assumes nothing.
+use native.Mathlib.Omega.{arith}
+use mathlib.Core.Path.{refl, sym, ap, _∙_}
+use lib.ListN.{take}
+use Rattle.model.specs.Protocol.{releaseStream}
+use Rattle.model.proofs.Protocol.Queue.{ofNode-reading, ofNode-below, ofNode-above}
+use Rattle.queue.specs.Queue.{OwnRelease}
+use borrow.Author.Needs.{needs}
+use Rattle.queue.proofs.look_at.Statement.{statement}
+use Rattle.queue.proofs.look_at.Tie as tie
+
+mul-wide : tie.Need-mul-wide
+mul-wide c = omega (arith, c .before .before .before .pre .0 .1)
+
+add-wide : tie.Need-add-wide
+add-wide c = omega (arith, c .before .before .before .pre .0 .1)
+
+mul-wide-2 : tie.Need-mul-wide-2
+mul-wide-2 c = omega (arith, c .before .before .before .pre .0 .1)
+
+shared-slice-read-wide : tie.Need-shared-slice-read-wide
+shared-slice-read-wide c = omega (arith, c .before .before .before .before .pre .0 .1)
+
+wide-requires : tie.Need-wide-requires
+wide-requires c κs = search needs
+
+returns : tie.Need-returns
+returns c =
+    let a = c .before .before .before .before .before .before .before .args in
+    let pre = c .before .before .before .before .before .before .before .pre in
+    let other = ofNode-below (a .sheet .now) (a .streams .node) (releaseStream (a .log .now) (a .at)) (omega (arith, c .if1 .taken, ap (λ r. r .before) (pre .0 .0), c .before .before .wide .ensures .0)) in
+    (pre .1 .0, rw other refl)
+
+returns-2 : tie.Need-returns-2
+returns-2 c =
+    let a = c .before .before .before .before .before .before .before .before .before .args in
+    let pre = c .before .before .before .before .before .before .before .before .before .pre in
+    let other = ofNode-above (a .sheet .now) (a .streams .node) (releaseStream (a .log .now) (a .at)) (omega (arith, c .if2 .taken, ap (λ r. r .last) (pre .0 .0), c .before .before .before .before .wide .ensures .0)) in
+    (pre .1 .0, rw other refl)
+
+-- the stream is one of the node's
+own : (c : tie.Else2) → OwnRelease (c .before .before .before .before .before .before .before .before .before .args .sheet .now) (c .before .before .before .before .before .before .before .before .before .args .log .now) (c .before .before .before .before .before .before .before .before .before .args .streams .node) (c .before .before .before .before .before .before .before .before .before .args .at)
+own c =
+    let pre = c .before .before .before .before .before .before .before .before .before .pre in
+    let read = c .before .before .before .before .wide .ensures .0 in
+    record {
+      inLog = pre .0 .1;
+      above = omega (arith, c .before .before .if1 .left, ap (λ r. r .before) (pre .0 .0), read);
+      upTo = omega (arith, c .if2 .left, ap (λ r. r .last) (pre .0 .0), read);
+    }
+
+place-among-requires : tie.Need-place-among-requires
+place-among-requires c κs =
+    let pre = c .before .before .before .before .before .before .before .before .before .before .pre in
+    ((pre .0 .0, own (c .before)), (omega (arith, pre .1), pre .0 .2))
+
+put-among-requires : tie.Need-put-among-requires
+put-among-requires c κs = search needs
+
+same-length : tie.Need-same-length
+same-length c = search needs
+
+returns-3 : tie.Need-returns-3
+returns-3 c =
+    let a = c .before .before .before .before .before .before .before .before .before .before .before .before .before .before .before .args in
+    let put = c .before .before .put-among .ensures in
+    let placed = c .before .before .before .before .place-among .ensures in
+    let listed = own (c .before .before .before .before .before .before) in
+    let mine = ofNode-reading (a .sheet .now) (a .streams .node) (releaseStream (a .log .now) (a .at)) .1 (listed .above, listed .upTo) in
+    (put .0, put .1 ∙ rw mine (ap (take (a .most)) (sym (placed .1))))
+
+pub look-at-spec : {M : Type 1} → statement M
+look-at-spec =
+    tie.close
+    (tie.spec
+    mul-wide
+    add-wide
+    mul-wide-2
+    shared-slice-read-wide
+    wide-requires
+    returns
+    returns-2
+    place-among-requires
+    put-among-requires
+    same-length
+    returns-3)

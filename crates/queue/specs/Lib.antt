@@ -1,0 +1,2 @@
+-- What the contracts of the queue cite beside document 01's definitions.
+pub mod Queue
