@@ -215,10 +215,10 @@ fn replay_loaded() {
     replay_pair("a bus loaded to nine tenths", &busy, &log, horizon);
 }
 
-/// A morning as on the van: sixteen nodes of four streams, whose messages and
+/// A morning on a full line: sixteen nodes of four streams, whose messages and
 /// slots take two thirds of the time.
-fn replay_morning() {
-    let periods: Vec<u32> = (0..64).map(|i| 390 + 6 * i).collect();
+fn replay_sixteen_nodes() {
+    let periods: Vec<u32> = (0..64).map(|i| 404 + 6 * i).collect();
     let nodes: Vec<(u32, Vec<(u32, u32)>)> = periods
         .chunks(4)
         .map(|own| (2, own.iter().map(|&period| (period, period)).collect()))
@@ -257,7 +257,6 @@ fn replay_backlogs() {
         &rivals,
         1_000_000,
     );
-    replay_longest();
 }
 
 /// The longest replay found: all wait for the last of sixteen nodes, which
@@ -287,8 +286,9 @@ fn replay() {
         far,
     );
     replay_loaded();
-    replay_morning();
+    replay_sixteen_nodes();
     replay_backlogs();
+    replay_longest();
     for horizon in [1_000_000, 10_000_000, 100_000_000, far] {
         replay_pair(
             &format!("4,096 releases, horizon {horizon}"),

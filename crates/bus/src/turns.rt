@@ -14,7 +14,7 @@ use queue::arrived_by;
 use queue::look;
 use queue::next_unbegun;
 
-// The sheet's first three words, read once for all turns: n, TMS and TPR.
+// The sheet's first three words, read once for the clock and the order of nodes: n, TMS and TPR.
 pub struct Header {
     pub nodes: u32,
     pub message: u32,

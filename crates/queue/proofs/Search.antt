@@ -23,7 +23,7 @@ use Rattle.model.specs.Analysis.{outranks}
 use Rattle.model.specs.Protocol.{releases, releaseStream, ofNode, streamOfRelease, queuedBefore, waiting, queueOf, takenBy}
 use Rattle.model.proofs.Protocol.Queue.{ofNode-reading, queue-total}
 use Rattle.model.proofs.Protocol.Waiting.{waiting-true, waiting-holds, waiting-begun, waiting-later, waiting-other}
-use Rattle.queue.specs.Queue.{Arrived, BegunFrom, Found, lineWith}
+use Rattle.queue.specs.Queue.{Arrived, BegunFrom, Found, foundWith}
 
 -- One more release has begun.
 pub begun-more : (room : List ℕ) (from to : ℕ)
@@ -88,11 +88,11 @@ module _ {s log : List ℕ} {k tick m : ℕ} {room : List ℕ} where
       → i < to
       → word room i ≡ notBegun
       → next ≤ m
-      → take next after ≡ lineWith s log k m i (take count found)
+      → take next after ≡ foundWith s log k m i (take count found)
       → Looked s log k tick m room i count found
       → Looked s log k tick m room (i + 1) next after
   look-next {i = i} {count = count} {found = found} arrived early unbegun few put so-far =
-      record { few = few; line = rw (add-one i) (put ∙ ap (lineWith s log k m i) (so-far .line) ∙ go (ofNode s k (releaseStream log i)) refl) }
+      record { few = few; line = rw (add-one i) (put ∙ ap (foundWith s log k m i) (so-far .line) ∙ go (ofNode s k (releaseStream log i)) refl) }
     where
       q : Queue
       q = queueOf s log k tick room

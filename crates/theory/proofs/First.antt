@@ -32,7 +32,7 @@ module _ (test : ℕ → Bool) (before : ℕ → ℕ → Bool) (none : ℕ) wher
   first-start = refl
 
   -- A number for which the test fails leaves the best.
-  pub first-passed : (i : ℕ) → test i ≡ false → firstIn test before none (suc i) ≡ firstIn test before none i
+  first-passed : (i : ℕ) → test i ≡ false → firstIn test before none (suc i) ≡ firstIn test before none i
   unfolding firstIn
   first-passed i fails = rw fails
 
