@@ -1,16 +1,15 @@
 -- Priority, "rank", is a strict total order on the streams of a node: it is lexicographic, by deadline, then by period, then by number.
 -- Assumes nothing.
-use Prim.Native.Nat.{ℕ, _<_}
+use Prim.Native.Nat.{ℕ}
 use mathlib.Core.Path.{_≡_, _∙_}
-use mathlib.Core.Logic.{_↔_, _⊎_}
-use mathlib.Core.Bool.{Bool, true}
+use mathlib.Core.Bool.{Bool}
 use mathlib.Core.List.{List}
 use lib.Dec.{ltb}
 use Rattle.model.specs.declared.Stream.{Stream}
 use Rattle.model.specs.Sheet.{period, deadline}
 use Rattle.model.specs.Analysis.{streamOf, outranks}
 use Rattle.theory.proofs.Order.{TotalOn}
-use Rattle.theory.proofs.Lexicographic.{lexicographic, ltb-reading, lexicographic-reading, lexicographic-decided, lexicographic-tied, ltb-irreflexive, ltb-total, lexicographic-total}
+use Rattle.theory.proofs.Lexicographic.{lexicographic, lexicographic-decided, lexicographic-tied, ltb-irreflexive, ltb-total, lexicographic-total}
 
 -- The parts of the order: the two keys, the order of the numbers, and what equal deadlines leave it to.
 abbrev deadlineOf : Stream → ℕ
@@ -25,19 +24,7 @@ lowerNumber x y = ltb (x .number) (y .number)
 abbrev byPeriod : Stream → Stream → Bool
 byPeriod = lexicographic ltb periodOf lowerNumber
 
--- A stream outranks another exactly where its deadline is shorter, or the deadlines are equal and its period is shorter, or both are
--- equal and its number is lower.
-pub outranks-reading : (x y : Stream)
-    → (outranks x y ≡ true)
-    ↔ ((x .deadline < y .deadline)
-    ⊎ ((x .deadline ≡ y .deadline)
-    × ((x .period < y .period) ⊎ ((x .period ≡ y .period) × (x .number < y .number)))))
-unfolding outranks
-outranks-reading =
-    lexicographic-reading deadlineOf ltb-reading
-    (lexicographic-reading periodOf ltb-reading (λ x y. ltb-reading (x .number) (y .number)))
-
--- So different deadlines decide;
+-- Different deadlines decide;
 pub by-deadline : (x y : Stream) → (x .deadline ≡ y .deadline → ⊥) → outranks x y ≡ ltb (x .deadline) (y .deadline)
 unfolding outranks
 by-deadline = lexicographic-decided ltb deadlineOf byPeriod

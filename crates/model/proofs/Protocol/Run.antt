@@ -1,6 +1,6 @@
 -- The run to a horizon. The horizon is fuel enough, so the replay ends in the protocol's state before the first turn that would
 -- start at or after it. Assumes nothing.
-use Prim.Native.Nat.{ℕ, zero, suc, _+_, _*_, _≤_, _<_}
+use Prim.Native.Nat.{ℕ, zero, suc, _+_, _≤_, _<_}
 use mathlib.Core.Path.{_≡_, refl, sym, _∙_, ap}
 use mathlib.Core.Logic.{⊎-elim}
 use mathlib.Core.Bool.{Bool, true, false}
@@ -11,10 +11,9 @@ use native.Mathlib.Omega.{arith}
 use lib.Dec.{ltb}
 use lib.ListN.{length}
 use borrow.Author.Tests.{ltb-true, ltb-false, lt-ltb, le-ltb}
-use Rattle.model.specs.Limits.{maxBudget, maxSlotTicks}
-use Rattle.model.specs.Sheet.{nodes, messageTicks, slotTicks, budget}
-use Rattle.model.specs.Protocol.{releases, State, turn, start, stateAt, startOf, TurnsBefore, run, replayed}
-use Rattle.model.proofs.Protocol.Clock.{turn-least, turn-longest, next-state, next-start, turns-counted, start-at-least, begins-length}
+use Rattle.model.specs.Sheet.{slotTicks}
+use Rattle.model.specs.Protocol.{releases, State, turn, stateAt, startOf, TurnsBefore, run, replayed}
+use Rattle.model.proofs.Protocol.Clock.{turn-least, next-state, next-start, turns-counted, begins-length}
 
 -- A run from the state before turn i ends in that before turn `count`, and its turns are those that start before the horizon.
 record Reached (s log : List ℕ) (horizon fuel i : ℕ) : Type 0 where
@@ -133,31 +132,6 @@ module _ (s log : List ℕ) (horizon : ℕ) where
     -- The turns that the replay counts are those that start before the horizon.
     pub replayed-turns : TurnsBefore s log horizon (replayed s log horizon .bus .turns)
     replayed-turns = rw counted (record { started = λ i h. whole .started i (omega arith) h; ended = whole .ended })
-
-    -- The replay counts no more turns than the horizon has ticks.
-    pub replayed-turns-most : replayed s log horizon .bus .turns ≤ horizon
-    replayed-turns-most = turns-most (replayed s log horizon .bus .turns) replayed-turns
-      where
-        turns-most : (count : ℕ) → TurnsBefore s log horizon count → count ≤ horizon
-        turns-most zero before = omega arith
-        turns-most (suc i) before = omega (arith, before .started i (omega arith), start-at-least s log slot i)
-
-    -- The next turn would start less than one longest turn after the horizon.
-    pub replayed-tick-most : 1 ≤ nodes s
-        → messageTicks s ≤ maxSlotTicks
-        → slotTicks s ≤ maxSlotTicks
-        → ((k : ℕ) → 1 ≤ k → k ≤ nodes s → budget s k ≤ maxBudget)
-        → replayed s log horizon .bus .tick ≤ horizon + (maxBudget * maxSlotTicks + maxSlotTicks)
-    unfolding stateAt start
-    replayed-tick-most some message slots budgets =
-        omega (arith, ap (λ st. st .bus .tick) replayed-state, tick-most (replayed s log horizon .bus .turns) replayed-turns)
-      where
-        tick-most : (count : ℕ)
-            → TurnsBefore s log horizon count
-            → startOf s log count ≤ horizon + (maxBudget * maxSlotTicks + maxSlotTicks)
-        tick-most zero before = omega arith
-        tick-most (suc i) before =
-            omega (arith, before .started i (omega arith), turn-longest s log some message slots budgets i)
 
 -- There is but one number of turns that start before the horizon.
 pub turns-unique : {s log : List ℕ} {horizon a b : ℕ} → TurnsBefore s log horizon a → TurnsBefore s log horizon b → a ≡ b
