@@ -86,11 +86,11 @@ static void be_refused(void) {
 
     show_refusal("an empty sheet", wistorvan_check_sheet(NULL, 0));
     memcpy(late, sheet, sizeof late);
-    late[10] = late[12] = 37;
+    late[10] = late[12] = 38;
     a = wistorvan_admit(WORDS(late), WORDS(waits));
     if (waits[0] != 7 || waits[1] != 8 || waits[2] != 9)
         stop("the room was changed by", a);
-    show_refusal("deadlines of 37", a);
+    show_refusal("deadlines of 38", a);
 }
 
 int main(void) {

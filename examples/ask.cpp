@@ -131,8 +131,8 @@ void ask() {
 
     show_refused("an empty sheet", WISTORVAN_SHEET_TOO_SHORT, [] { check_sheet({}); });
     Words late = sheet;
-    late[10] = late[12] = 37;
-    show_refused("deadlines of 37", WISTORVAN_LATE, [&] { admit(late); });
+    late[10] = late[12] = 38;
+    show_refused("deadlines of 38", WISTORVAN_LATE, [&] { admit(late); });
 }
 
 } // namespace

@@ -65,11 +65,11 @@ static void make_and_ask(const char *what, const uint32_t *deadlines, size_t dea
 
 int main(void) {
     static const uint32_t due[] = {40, 60, 30};
-    static const uint32_t due_sooner[] = {37, 37, 30};
+    static const uint32_t due_sooner[] = {38, 38, 30};
     static const uint32_t due_too_far[] = {40, 61, 30};
 
     make_and_ask("sheet A from its tables", WORDS(due));
-    make_and_ask("both deadlines of node 1 cut to 37", WORDS(due_sooner));
+    make_and_ask("both deadlines of node 1 cut to 38", WORDS(due_sooner));
     make_and_ask("a deadline of 61 for a period of 60", WORDS(due_too_far));
     return EXIT_SUCCESS;
 }

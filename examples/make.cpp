@@ -93,8 +93,8 @@ int main() {
     Tables line{5, 1, {2, 1}, {1, 2}, {40, 60, 30}, {40, 60, 30}};
     try {
         make_and_ask("sheet A from its tables", line);
-        line.deadlines = {37, 37, 30};
-        make_and_ask("both deadlines of node 1 cut to 37", line);
+        line.deadlines = {38, 38, 30};
+        make_and_ask("both deadlines of node 1 cut to 38", line);
         line.deadlines = {40, 61, 30};
         make_and_ask("a deadline of 61 for a period of 60", line);
     } catch (const std::exception &stopped) {

@@ -64,13 +64,24 @@ admit "P2" "$work/p2" "node stream wait" "1 1 33" "1 2 16" "2 1 16" "admitted 3"
 words p3 2 5 1 9 2 1 13 1 2 40 40 60 37 30 30
 admit "P3" "$work/p3" "node stream wait" "1 1 33" "1 2 16" "2 1 16" "admitted 3"
 
-# Equal deadlines: the shorter period is ranked above, and of equal periods the lower number. 38 just fits a wait of 33.
-words period 2 5 1 9 2 1 13 1 2 61 38 60 38 30 30
+# Equal deadlines: the shorter period is ranked above, and of equal periods the lower number. 39 is just enough for two cycles of 17, less a
+# tick, and a turn of 5 and 1.
+words period 2 5 1 9 2 1 13 1 2 61 39 60 39 30 30
 admit "a tie of deadlines" "$work/period" "node stream wait" "1 1 33" "1 2 16" "2 1 16" "admitted 3"
-words number 2 5 1 9 2 1 13 1 2 60 38 60 38 30 30
+words number 2 5 1 9 2 1 13 1 2 60 39 60 39 30 30
 admit "a tie of deadlines and periods" "$work/number" "node stream wait" "1 1 16" "1 2 33" "2 1 16" "admitted 3"
-words behind 2 5 1 9 2 1 13 1 2 40 37 60 37 30 30
-admit "the second stream late" "$work/behind" "refused 7 at 1 2"
+words behind 2 5 1 9 2 1 13 1 2 40 38 60 38 30 30
+admit "P2 with node 1's first deadline also 38" "$work/behind" "refused 7 at 1 2"
+
+# Delivery is at the end of the turn: 5 and 6 more in P7; and a message that is first of two is delivered with the second, 27 after its release.
+words p7 1 5 1 6 2 1 10 10 100 100
+admit "P7" "$work/p7" "refused 7 at 1 1"
+words p7-11 1 5 1 6 2 1 11 11 100 100
+admit "P7 with 11 for its first stream" "$work/p7-11" "node stream wait" "1 1 5" "1 2 17" "admitted 2"
+words pair 2 5 1 9 1 1 11 2 2 60 60 40 27 60 60
+admit "first of two, in time" "$work/pair" "node stream wait" "1 1 16" "2 1 16" "2 2 21" "admitted 3"
+words pair-26 2 5 1 9 1 1 11 2 2 60 60 40 26 60 60
+admit "first of two, late" "$work/pair-26" "refused 7 at 2 1"
 words late 1 5 1 6 2 1 100 6 9 9
 admit "the first late in sheet order" "$work/late" "refused 7 at 1 1"
 words idle 3 5 1 12 0 1 12 0 1 12 0 1
@@ -78,9 +89,9 @@ admit "all nodes without streams" "$work/idle" "node stream wait" "admitted 0"
 words figure1 3 5 1 12 3 1 18 1 1 20 1 1 20 20 65 65 67 67 26 26 35 35
 admit "Figure 1 of 000 in fifths" "$work/figure1" "refused 7 at 1 1"
 
-# C is 2,570,000 and J 259: the stream above has a period of C + TMS - 1 and the budget is 1.
-words wait 16 10000 10000 51 2 1 $(printf '55 0 16 %.0s' {2..16}) 2579999 2579999 1000000000 1000000000
-admit "a wait over 10^8" "$work/wait" "node stream wait" "1 1 2569999" "1 2 665629999" "admitted 2"
+# C is 2,570,000 and J 130: the stream above has a period of C - 1 + TMS + TPR, just in time, and the budget is 1.
+words wait 16 10000 10000 51 2 1 $(printf '55 0 16 %.0s' {2..16}) 2589999 2589999 1000000000 1000000000
+admit "a wait over 10^8" "$work/wait" "node stream wait" "1 1 2569999" "1 2 334099999" "admitted 2"
 
 printf 'abcde' >"$work/five"
 admit "5 bytes" "$work/five" "refused 1 at 0 0"

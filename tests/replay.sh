@@ -50,9 +50,9 @@ replay "rank before log order" "$a" "$work/rank" "release begin" "1 7" "2 0" "tu
 words both 10 0 1 0 2
 words p2 2 5 1 9 2 1 13 1 2 40 40 60 38 30 30
 replay "rank by deadline" "$work/p2" "$work/both" "release begin" "1 7" "2 0" "turns 3 next 13"
-words period 2 5 1 9 2 1 13 1 2 61 38 60 38 30 30
+words period 2 5 1 9 2 1 13 1 2 61 39 60 39 30 30
 replay "a tie of deadlines" "$work/period" "$work/both" "release begin" "1 7" "2 0" "turns 3 next 13"
-words number 2 5 1 9 2 1 13 1 2 60 38 60 38 30 30
+words number 2 5 1 9 2 1 13 1 2 60 39 60 39 30 30
 replay "a tie of deadlines and periods" "$work/number" "$work/both" "release begin" "1 0" "2 7" "turns 3 next 13"
 
 words horizon 5

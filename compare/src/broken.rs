@@ -1,6 +1,7 @@
 //! The proved library against variants of the second program that make the
-//! errors listed in document 01, go by a wrong rank, write a sheet wrongly, or
-//! start a search at a wrong place. Each of them has to differ somewhere.
+//! errors listed in document 01, go by a wrong rank, write a sheet wrongly,
+//! start a search at a wrong place, or judge by a wrong late test. Each of them
+//! has to differ somewhere.
 
 use peer::broken;
 use peer::generate::{case, tables_case, Case, TablesCase};
@@ -17,7 +18,7 @@ enum Entry {
     Step(Step),
 }
 
-const VARIANTS: [(&str, Entry); 21] = [
+const VARIANTS: [(&str, Entry); 25] = [
     (
         "1, releases counted by ceiling",
         Entry::Admit(broken::admit_by_ceiling),
@@ -101,6 +102,22 @@ const VARIANTS: [(&str, Entry); 21] = [
     (
         "21, step without what waits before a begun release",
         Entry::Step(broken::step_after_last_begun),
+    ),
+    (
+        "22, a message delivered when it ends",
+        Entry::Admit(broken::admit_delivering_at_own_end),
+    ),
+    (
+        "23, a message delivered as if the last of its turn",
+        Entry::Admit(broken::admit_delivering_behind_own_place),
+    ),
+    (
+        "24, a message delivered before the protocol slot",
+        Entry::Admit(broken::admit_delivering_before_the_slot),
+    ),
+    (
+        "25, a delivery at the deadline is late",
+        Entry::Admit(broken::admit_late_at_the_deadline),
     ),
 ];
 

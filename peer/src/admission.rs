@@ -1,4 +1,5 @@
-//! The listed wait of a stream, and the two entries that answer it.
+//! The listed wait of a stream, the late test, and the two entries that answer
+//! them.
 
 use crate::sheet::{Bus, MOST_STREAMS, MOST_STREAMS_A_NODE};
 use crate::{refusal, success, Answer};
@@ -32,20 +33,15 @@ struct Interference {
 }
 
 impl Interference {
-    /// For the first window, C − 1.
-    fn first(bus: &Bus, stream: usize, cycle: u64) -> Interference {
+    /// For the first window, C − 1, given the periods of those streams.
+    fn first(above: impl Iterator<Item = u64>, cycle: u64) -> Interference {
         let mut sum = Interference {
             releases: 0,
             whole_a_cycle: 0,
             streams: [Progress::default(); MOST_STREAMS_A_NODE],
             count: 0,
         };
-        let node = &bus.nodes()[bus.node_of(stream)];
-        for other in node.first..node.first + node.count {
-            if bus.priority(other) < bus.priority(stream) {
-                sum.add(u64::from(bus.streams()[other].period), cycle);
-            }
-        }
+        above.for_each(|period| sum.add(period, cycle));
         sum
     }
 
@@ -74,38 +70,58 @@ impl Interference {
     }
 }
 
-/// The last J worth a try. The listed wait of J is at least J × C − 1, because
-/// x is never negative: for J = 1 it is H itself, and for a later least J the
-/// one before failed, so H was (J − 1) × m or more there and has not fallen.
-/// Hence a J with J × C − 1 + TMS above the deadline makes the stream late,
-/// and so does every greater one, just as no J at all does.
-pub(crate) fn last_try(bus: &Bus, stream: usize) -> u64 {
-    let deadline = u64::from(bus.streams()[stream].deadline);
-    (deadline + 1).saturating_sub(bus.message_ticks) / bus.cycle()
+/// Ticks from a release to its delivery at the latest, for a J from 1 up. A
+/// message is handed up when the protocol slot of its turn ends, so its own
+/// place in the turn plays no part, and the turn is taken as full.
+pub(crate) fn delivery(bus: &Bus, stream: usize, cycles: u64) -> u64 {
+    cycles * bus.cycle() - 1 + bus.longest_turn(bus.node_of(stream))
 }
 
-/// Tries J from 1 to `last`, one by one, and takes the least that serves;
-/// the deadline plays no part here.
-pub(crate) fn least_cycles(bus: &Bus, stream: usize, last: u64) -> Option<Listed> {
-    let cycle = bus.cycle();
-    let budget = bus.nodes()[bus.node_of(stream)].budget as u64;
-    let mut sum = Interference::first(bus, stream, cycle);
+/// The late test: the last J whose delivery is not above the deadline, 0 if
+/// even the first is. The delivery grows with J, so each J up to this is in
+/// time and each greater one is not. Hence a stream is late exactly if no J
+/// from 1 to this serves, and none further on is worth a try.
+pub(crate) fn last_try(bus: &Bus, stream: usize) -> u64 {
+    let deadline = u64::from(bus.streams()[stream].deadline);
+    match deadline.checked_sub(delivery(bus, stream, 1)) {
+        Some(spare) => 1 + spare / bus.cycle(),
+        None => 0,
+    }
+}
+
+/// Tries J from 1 to `last`, one by one, for a stream below those with these
+/// periods. Answers the least that serves, and x of document 01.
+pub(crate) fn search(
+    above: impl Iterator<Item = u64>,
+    cycle: u64,
+    budget: u64,
+    last: u64,
+) -> Option<(u64, u64)> {
+    let mut sum = Interference::first(above, cycle);
     for cycles in 1..=last {
         if sum.releases < cycles * budget {
-            let ahead = sum.releases - (cycles - 1) * budget;
-            let wait = cycles * cycle - 1 + ahead * bus.message_ticks;
-            return Some(Listed { wait, cycles });
+            // Not below 0: the J before did not serve, and H does not fall.
+            return Some((cycles, sum.releases - (cycles - 1) * budget));
         }
         sum.advance();
     }
     None
 }
 
+/// The least J up to `last` and its wait; the deadline plays no part here.
+pub(crate) fn least_cycles(bus: &Bus, stream: usize, last: u64) -> Option<Listed> {
+    let node = &bus.nodes()[bus.node_of(stream)];
+    let above = (node.first..node.first + node.count)
+        .filter(|&other| bus.priority(other) < bus.priority(stream))
+        .map(|other| u64::from(bus.streams()[other].period));
+    let (cycles, ahead) = search(above, bus.cycle(), node.budget as u64, last)?;
+    let wait = cycles * bus.cycle() - 1 + ahead * bus.message_ticks;
+    Some(Listed { wait, cycles })
+}
+
 /// None for a late stream, which has no listed wait.
 pub(crate) fn listed(bus: &Bus, stream: usize) -> Option<Listed> {
-    let deadline = u64::from(bus.streams()[stream].deadline);
     least_cycles(bus, stream, last_try(bus, stream))
-        .filter(|found| found.wait + bus.message_ticks <= deadline)
 }
 
 /// The listed wait and J of one stream; `stream` is its number in the node.

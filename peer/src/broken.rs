@@ -1,8 +1,9 @@
 //! The five errors that document 01 has seen in fitters' sheets, three wrong
-//! ranks, eight wrong writers and two wrong starting places, each made on
-//! purpose, so that a comparison can show that it catches them. All else is as
-//! in the good program.
+//! ranks, eight wrong writers, two wrong starting places and four wrong late
+//! tests, each made on purpose, so that a comparison can show that it catches
+//! them. All else is as in the good program.
 
+mod delivery;
 mod start;
 mod writer;
 
@@ -11,6 +12,10 @@ use crate::replay::{write_begins, Operation};
 use crate::sheet::{by_deadline, Bus, Rank, MOST_STREAMS_A_NODE};
 use crate::{admission, replay, success, Answer, NOT_BEGUN};
 
+pub use delivery::{
+    admit_delivering_at_own_end, admit_delivering_before_the_slot,
+    admit_delivering_behind_own_place, admit_late_at_the_deadline,
+};
 pub use start::{replay_starting_late, step_after_last_begun};
 pub use writer::{
     write_any_deadlines, write_before_streams, write_bodies_swapped, write_one_place,
@@ -157,13 +162,22 @@ fn replay_ranked(sheet: &[u32], log: &[u32], horizon: u32, room: &mut [u32], ran
 
 /// Admits with another count of releases, given a window and a period.
 fn admit_counting(sheet: &[u32], room: &mut [u32], count: fn(u64, u64) -> u64) -> Answer {
+    admit_with(sheet, room, |bus, stream| wait_counting(bus, stream, count))
+}
+
+/// Admits with what `wait` lists for a stream, none for a late one.
+fn admit_with(
+    sheet: &[u32],
+    room: &mut [u32],
+    wait: impl Fn(&Bus, usize) -> Option<u64>,
+) -> Answer {
     let bus = match admission::check(sheet, room) {
         Ok(bus) => bus,
         Err(answer) => return answer,
     };
     let mut waits = Vec::new();
     for stream in 0..bus.streams().len() {
-        match wait_counting(&bus, stream, count) {
+        match wait(&bus, stream) {
             Some(wait) => waits.push(wait as u32),
             None => return late(&bus, stream),
         }
@@ -180,12 +194,11 @@ fn wait_counting(bus: &Bus, stream: usize, count: fn(u64, u64) -> u64) -> Option
         .map(|other| u64::from(bus.streams()[other].period))
         .collect();
     let releases = |window: u64| -> u64 { above.iter().map(|&p| count(window, p)).sum() };
-    // No count falls as the window grows, so this bound holds here too.
+    // The late test asks for J alone, however the releases are counted. No
+    // count falls as the window grows, so that x is never negative.
     let cycles = (1..=last_try(bus, stream)).find(|j| releases(j * cycle - 1) < j * budget)?;
     let window = cycles * cycle - 1;
-    let wait = window + (releases(window) - (cycles - 1) * budget) * bus.message_ticks;
-    let deadline = u64::from(bus.streams()[stream].deadline);
-    (wait + bus.message_ticks <= deadline).then_some(wait)
+    Some(window + (releases(window) - (cycles - 1) * budget) * bus.message_ticks)
 }
 
 /// As in the good program, but for what one turn does: `turn` is handed the

@@ -1,10 +1,10 @@
-//! The independent second program: written from document 01 and, for the rank
-//! and the writer, requests One and Two of document 02 alone, so that the
-//! proved program can be compared with it. It shares no code with that program,
-//! and keeps other accounts: running remainders in the search for J, one queue
-//! a stream in the replay, a sheet put together apart from the room in the
-//! writer. That J is tried from 1 up, as far as the deadline allows, is the
-//! same in both.
+//! The independent second program: written from document 01 and, for the rank,
+//! the writer and the late test, requests One, Two and Four of document 02
+//! alone, so that the proved program can be compared with it. It shares no code
+//! with that program, and keeps other accounts: running remainders in the
+//! search for J, one queue a stream in the replay, a sheet put together apart
+//! from the room in the writer. That J is tried from 1 up, as far as the
+//! deadline allows, is the same in both.
 //!
 //! Every entry is total: whatever is handed in gets an answer, and a refusal
 //! changes no lent word.

@@ -177,6 +177,11 @@ impl Bus {
         budgets * self.message_ticks + self.node_count as u64 * self.slot_ticks
     }
 
+    /// A turn in which the node sends its whole budget, with its protocol slot.
+    pub fn longest_turn(&self, node: usize) -> u64 {
+        self.nodes[node].budget as u64 * self.message_ticks + self.slot_ticks
+    }
+
     /// Smaller means served first. Only meant within one node, where no two
     /// streams have the same.
     pub fn priority(&self, stream: usize) -> u64 {

@@ -4,10 +4,10 @@
 mod rank;
 mod tables;
 
-use std::collections::BTreeMap;
+use std::collections::{BTreeMap, BTreeSet};
 use std::fmt;
 
-use crate::admission::{last_try, least_cycles};
+use crate::admission::{delivery, last_try, least_cycles};
 use crate::generate::{case, total_tries, Case, FAR_BEGIN, FAR_TURNS, FAR_WAIT};
 use crate::sheet::{Bus, LAST_TICK};
 use crate::{admit, check_sheet, one_stream, replay, step, Answer, NOT_BEGUN};
@@ -147,27 +147,49 @@ fn count_sheet(figures: &mut Figures, case: &Case) {
     if admitted && answer.second > 0 {
         figures.total("sheet admitted with streams", 1);
     }
-    count_edges(figures, &case.sheet, admitted);
+    count_edges(figures, &case.sheet, answer);
 }
 
-/// Whether some stream meets its deadline to the tick, or misses it by one.
-fn count_edges(figures: &mut Figures, sheet: &[u32], admitted: bool) {
+const JUST_IN_TIME: &str = "just in time";
+const LATE_BY_ONE: &str = "late by one tick";
+
+/// Whether a stream is delivered just at its deadline or one tick after it,
+/// and after how many cycles.
+fn edge(bus: &Bus, stream: usize) -> Option<(&'static str, u64)> {
+    // A stream late by one takes one J more than is worth a try.
+    let cycles = least_cycles(bus, stream, last_try(bus, stream) + 1)?.cycles;
+    let deadline = u64::from(bus.streams()[stream].deadline);
+    match delivery(bus, stream, cycles) {
+        ticks if ticks == deadline => Some((JUST_IN_TIME, cycles)),
+        ticks if ticks == deadline + 1 => Some((LATE_BY_ONE, cycles)),
+        _ => None,
+    }
+}
+
+/// Streams at the edge of the late test, and sheets that have such.
+fn count_edges(figures: &mut Figures, sheet: &[u32], answer: Answer) {
     let Ok(bus) = Bus::read(sheet) else { return };
-    let (mut in_time, mut late) = (false, false);
+    let mut kinds = BTreeSet::new();
     for stream in 0..bus.streams().len() {
-        // A stream late by one may need one J more than is worth a try.
-        let Some(found) = least_cycles(&bus, stream, last_try(&bus, stream) + 1) else {
+        let Some((kind, cycles)) = edge(&bus, stream) else {
             continue;
         };
-        let delivered = found.wait + bus.message_ticks;
-        let deadline = u64::from(bus.streams()[stream].deadline);
-        in_time |= delivered == deadline;
-        late |= delivered == deadline + 1;
+        let cycles = if cycles == 1 { "1" } else { "2 or more" };
+        let budget = match bus.nodes()[bus.node_of(stream)].budget {
+            1 => "1",
+            _ => "over 1",
+        };
+        figures.add(format!("stream {kind}, J {cycles}, budget {budget}"));
+        kinds.insert(format!("sheet with a stream {kind}"));
+        if answer.number == 0 {
+            kinds.insert(format!("sheet admitted with a stream {kind}"));
+        }
+        let place = bus.place(stream);
+        if (7, place.0, place.1) == (answer.number, answer.second, answer.third) {
+            kinds.insert(format!("sheet refused for a stream {kind}"));
+        }
     }
-    figures.total("sheet with a stream just in time", u64::from(in_time));
-    let both = in_time && admitted;
-    figures.total("sheet admitted with a stream just in time", u64::from(both));
-    figures.total("sheet with a stream late by one tick", u64::from(late));
+    kinds.into_iter().for_each(|kind| figures.add(kind));
 }
 
 /// Whether some search sums up more releases than 32 bits hold.
@@ -218,6 +240,12 @@ fn count_question(figures: &mut Figures, case: &Case) {
         }
         8 => figures.add(format!("one stream 8 {}", question_cause(case))),
         number => figures.add(format!("one stream {number}")),
+    }
+    if let (0 | 7, Ok(bus)) = (answer.number, Bus::read(&case.sheet)) {
+        let stream = bus.find(case.node, case.stream);
+        if let Some((kind, _)) = stream.and_then(|stream| edge(&bus, stream)) {
+            figures.add(format!("one stream {}, {kind}", answer.number));
+        }
     }
 }
 

@@ -1,5 +1,5 @@
 //! P1 to P12 of document 01, with every value; P2 and P3 as request One of
-//! document 02 has them.
+//! document 02 has them, P7 and another P2 as request Four does.
 
 mod common;
 
@@ -38,7 +38,7 @@ fn p3_deadline_37_is_admitted_too() {
 
 #[test]
 fn deadlines_around_those_of_p2_and_p3() {
-    for deadline in [21, 39] {
+    for deadline in [22, 39] {
         let given = admitted(&second_deadline(deadline), 3);
         assert_eq!(given, (answer(0, 3, 17), vec![33, 16, 16]));
     }
@@ -48,18 +48,32 @@ fn deadlines_around_those_of_p2_and_p3() {
         assert_eq!(given, (answer(0, 3, 17), vec![16, 33, 16]));
     }
     // Late even as the first of its node.
-    assert_admit_refused(&second_deadline(20), answer(7, 1, 2));
+    assert_admit_refused(&second_deadline(21), answer(7, 1, 2));
 }
 
 #[test]
-fn a_deadline_of_38_behind_another_is_just_met() {
-    // The first stream has the shorter deadline, so the second waits for 33.
-    let sheet = sheet_a_with(&[(10, 30), (12, 38)]);
-    assert_eq!(admitted(&sheet, 3), (answer(0, 3, 17), vec![16, 33, 16]));
-    let sheet = sheet_a_with(&[(10, 30), (12, 37)]);
+fn p2_with_a_first_deadline_of_38_too_is_late() {
+    // The first stream has the shorter period, so the second waits for 33, and
+    // its turn ends 39 ticks after the release.
+    let sheet = sheet_a_with(&[(10, 38), (12, 38)]);
     assert_admit_refused(&sheet, answer(7, 1, 2));
     assert_eq!(one_stream(&sheet, 1, 2), answer(7, 1, 2));
     assert_eq!(one_stream(&sheet, 1, 1), answer(0, 16, 1));
+    let sheet = sheet_a_with(&[(10, 39), (12, 39)]);
+    assert_eq!(admitted(&sheet, 3), (answer(0, 3, 17), vec![16, 33, 16]));
+}
+
+#[test]
+fn a_deadline_of_39_behind_another_is_just_met() {
+    // The first stream has the shorter deadline, so the second waits for 33.
+    let sheet = sheet_a_with(&[(10, 30), (12, 39)]);
+    assert_eq!(admitted(&sheet, 3), (answer(0, 3, 17), vec![16, 33, 16]));
+    for deadline in [37, 38] {
+        let sheet = sheet_a_with(&[(10, 30), (12, deadline)]);
+        assert_admit_refused(&sheet, answer(7, 1, 2));
+        assert_eq!(one_stream(&sheet, 1, 2), answer(7, 1, 2));
+        assert_eq!(one_stream(&sheet, 1, 1), answer(0, 16, 1));
+    }
 }
 
 #[test]
@@ -92,8 +106,9 @@ fn p6_second_stream_of_node_2_lists_21() {
 
 #[test]
 fn p6_deadline_of_the_stream_behind_another() {
-    // Delivered 26 ticks after its release at the latest, not 21.
-    for (deadline, expected) in [(26, answer(0, 21, 1)), (25, answer(7, 2, 2))] {
+    // Its turn ends 27 ticks after its release at the latest; it is the last of
+    // the budget, and ends itself after 26.
+    for (deadline, expected) in [(27, answer(0, 21, 1)), (26, answer(7, 2, 2))] {
         let behind = [(30, 25), (50, deadline)];
         let sheet = sheet(5, 1, &[(1, &[(40, 40), (60, 60)]), (2, &behind)]);
         assert_eq!(one_stream(&sheet, 2, 2), expected);
@@ -101,9 +116,18 @@ fn p6_deadline_of_the_stream_behind_another() {
 }
 
 #[test]
-fn p7_one_node_lists_5_and_17() {
-    assert_eq!(admitted(&SHEET_P7, 2), (answer(0, 2, 6), vec![5, 17]));
+fn p7_period_10_is_late() {
+    assert_admit_refused(&SHEET_P7, answer(7, 1, 1));
+    assert_eq!(one_stream(&SHEET_P7, 1, 1), answer(7, 1, 1));
     assert_eq!(one_stream(&SHEET_P7, 1, 2), answer(0, 17, 3));
+}
+
+#[test]
+fn p7_with_11_11_first_lists_5_and_17() {
+    let sheet = p7_just_in_time();
+    assert_eq!(admitted(&sheet, 2), (answer(0, 2, 6), vec![5, 17]));
+    assert_eq!(one_stream(&sheet, 1, 1), answer(0, 5, 1));
+    assert_eq!(one_stream(&sheet, 1, 2), answer(0, 17, 3));
 }
 
 #[test]

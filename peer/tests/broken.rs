@@ -3,17 +3,11 @@
 mod common;
 
 use common::*;
-use peer::generate::{case, Case};
+use peer::generate::Case;
 use peer::{admit, broken, check_sheet, replay, step, Answer, Record};
 
-type Admit = fn(&[u32], &mut [u32]) -> Answer;
 type Replay = fn(&[u32], &[u32], u32, &mut [u32]) -> Answer;
 type Step = fn(&[u32], &[u32], &mut Record, &mut [u32]) -> Answer;
-
-fn waits(entry: Admit, sheet: &[u32], streams: usize) -> (Answer, Vec<u32>) {
-    let mut room = vec![OLD; streams];
-    (entry(sheet, &mut room), room)
-}
 
 fn begins(entry: Replay, sheet: &[u32], log: &[u32], horizon: u32) -> (Answer, Vec<u32>) {
     let mut room = vec![OLD; log.len() / 2];
@@ -48,8 +42,11 @@ fn joining() {
 #[test]
 fn one_release_each() {
     let entry = broken::admit_one_release_each;
-    assert_eq!(waits(admit, &SHEET_P7, 2).1, [5, 17]);
-    assert_eq!(waits(entry, &SHEET_P7, 2).1, [5, 11]);
+    let p7 = p7_just_in_time();
+    assert_eq!(waits(admit, &p7, 2).1, [5, 17]);
+    assert_eq!(waits(entry, &p7, 2).1, [5, 11]);
+    let refused = (answer(7, 1, 1), vec![OLD; 2]);
+    assert_eq!(waits(entry, &SHEET_P7, 2), refused);
     assert_eq!(waits(entry, &SHEET_A, 3), waits(admit, &SHEET_A, 3));
 }
 
@@ -86,13 +83,15 @@ fn writing_early() {
 #[test]
 fn ranked_by_period() {
     let entry = broken::admit_ranked_by_period;
-    // P2 and P3 as they were under the old rank.
-    let p2 = sheet_a_with(&[(12, 38)]);
-    assert_eq!(waits(admit, &p2, 3).1, [33, 16, 16]);
-    assert_eq!(waits(entry, &p2, 3).1, [16, 33, 16]);
+    // One tick more than in P2 is just in time under the old rank, P2 is late.
+    let longer = sheet_a_with(&[(12, 39)]);
+    assert_eq!(waits(admit, &longer, 3).1, [33, 16, 16]);
+    assert_eq!(waits(entry, &longer, 3).1, [16, 33, 16]);
     let p3 = sheet_a_with(&[(12, 37)]);
-    assert_eq!(waits(admit, &p3, 3).1, [33, 16, 16]);
-    assert_eq!(waits(entry, &p3, 3), (answer(7, 1, 2), vec![OLD; 3]));
+    for late in [&sheet_a_with(&[(12, 38)]), &p3] {
+        assert_eq!(waits(admit, late, 3).1, [33, 16, 16]);
+        assert_eq!(waits(entry, late, 3), (answer(7, 1, 2), vec![OLD; 3]));
+    }
     assert_eq!(waits(entry, &SHEET_A, 3), waits(admit, &SHEET_A, 3));
     let entry = broken::replay_ranked_by_period;
     let log = [0, 1, 0, 2];
@@ -223,14 +222,6 @@ fn orders(sheet: &[u32], key: Key) -> Vec<Vec<u32>> {
     bodies(sheet).iter().map(order).collect()
 }
 
-fn admits_differ(bad: Admit, case: &Case) -> bool {
-    let given = |entry: Admit| {
-        let mut room = case.room.clone();
-        (entry(&case.sheet, &mut room), room)
-    };
-    given(admit) != given(bad)
-}
-
 fn replays_differ(bad: Replay, case: &Case) -> bool {
     let given = |entry: Replay| {
         let mut room = case.room.clone();
@@ -252,12 +243,6 @@ fn steps_differ(bad: Step, case: &Case) -> bool {
 /// Whether some release waits before one that has begun.
 fn has_hole(room: &[u32]) -> bool {
     !room.is_sorted_by_key(|&word| word == NOT_BEGUN)
-}
-
-/// Of 2,000 generated cases.
-fn count(differ: impl Fn(&Case) -> bool) -> usize {
-    let cases = (0..2_000).map(|index| case(1, index));
-    cases.filter(|case| differ(case)).count()
 }
 
 #[test]

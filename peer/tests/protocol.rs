@@ -38,6 +38,19 @@ fn a_message_can_wait_its_listed_wait_to_the_tick() {
 }
 
 #[test]
+fn a_message_can_be_delivered_at_its_deadline_to_the_tick() {
+    let nodes: [(u32, &[(u32, u32)]); 2] = [(2, &[(100, 27), (100, 100)]), (1, &[(30, 30)])];
+    let sheet = sheet(5, 1, &nodes);
+    assert_eq!(one_stream(&sheet, 1, 1), answer(0, 16, 1));
+    // All others fill their turns. The message comes just after the start of
+    // one and goes first in the next; another follows it, and then the slot.
+    let log = [0, 2, 0, 2, 0, 2, 0, 3, 1, 1];
+    let (given, begins) = replayed(&sheet, &log, 18);
+    assert_eq!(begins, [0, 5, 22, 11, 17]);
+    assert_eq!(given, answer(0, 3, 1 + 27));
+}
+
+#[test]
 fn priority_goes_before_log_order() {
     assert_eq!(replayed(&SHEET_A, &[0, 2, 0, 1], 10).1, [7, 0]);
 }
@@ -111,8 +124,9 @@ fn all_levels_of_the_rank_together() {
 
 #[test]
 fn waits_read_the_same_rank() {
-    // In a cycle of 6 ticks with budget 1, each one above costs a cycle.
-    let streams = [(60, 40), (50, 40), (90, 20), (50, 40), (40, 40), (40, 39)];
+    // In a cycle of 6 ticks with budget 1, each one above costs a cycle; the
+    // last in rank is just in time.
+    let streams = [(60, 41), (50, 41), (90, 20), (50, 41), (41, 41), (41, 40)];
     let sheet = sheet(5, 1, &[(1, &streams)]);
     for (stream, above) in (1..).zip([5, 3, 0, 4, 2, 1]) {
         let expected = answer(0, 6 * above + 5, above + 1);

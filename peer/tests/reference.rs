@@ -8,48 +8,6 @@ use common::*;
 use peer::generate::{case, Case};
 use peer::{admit, check_sheet, one_stream, replay, step, Answer, Record};
 
-/// A valid sheet, taken apart in the plainest way.
-struct Plain {
-    message: u64,
-    slot: u64,
-    cycle: u64,
-    /// Budget and streams of each node; period and deadline of a stream.
-    nodes: Vec<(u64, Vec<(u64, u64)>)>,
-}
-
-fn plain(sheet: &[u32]) -> Plain {
-    let word = |place: usize| u64::from(sheet[place]);
-    let mut nodes = Vec::new();
-    for node in 0..sheet[0] as usize {
-        let row = 3 + 3 * node;
-        let body = sheet[row] as usize;
-        let count = sheet[row + 1] as usize;
-        let pair = |stream: usize| (word(body + 2 * stream), word(body + 2 * stream + 1));
-        nodes.push((word(row + 2), (0..count).map(pair).collect::<Vec<_>>()));
-    }
-    let budgets: u64 = nodes.iter().map(|node| node.0).sum();
-    Plain {
-        message: word(1),
-        slot: word(2),
-        cycle: budgets * word(1) + word(0) * word(2),
-        nodes,
-    }
-}
-
-/// The rank by the words of the request: shorter deadline first, then shorter
-/// period, then lower stream number. Numbers are those in the node, from 0.
-fn ranks_above(streams: &[(u64, u64)], one: usize, other: usize) -> bool {
-    let (period, deadline) = streams[one];
-    let (other_period, other_deadline) = streams[other];
-    if deadline != other_deadline {
-        return deadline < other_deadline;
-    }
-    if period != other_period {
-        return period < other_period;
-    }
-    one < other
-}
-
 fn least_common_multiple(one: u64, other: u64) -> u64 {
     let (mut divisor, mut rest) = (one, other);
     while rest > 0 {
@@ -89,10 +47,15 @@ impl Plain {
         above.len() as u64 * multiple + 1
     }
 
+    /// Delivery for J by the words of request Four.
+    fn delivery(&self, node: usize, cycles: u64) -> u64 {
+        cycles * self.cycle - 1 + self.nodes[node].0 * self.message + self.slot
+    }
+
     fn expected(&self, node: usize, stream: usize, most: u64) -> Answer {
         let deadline = self.nodes[node].1[stream].1;
         match self.literal(node, stream, most) {
-            Some((wait, cycles)) if wait + self.message <= deadline => {
+            Some((wait, cycles)) if self.delivery(node, cycles) <= deadline => {
                 answer(0, wait as u32, cycles as u32)
             }
             _ => answer(7, node as u32 + 1, stream as u32 + 1),
@@ -377,54 +340,4 @@ fn step_by_the_words() {
         begun += taken;
     }
     assert!(compared > 2_000 && begun > 3_000, "{compared} {begun}");
-}
-
-/// Whether a stream's successive releases in the log are a period apart.
-fn keeps_period(log: &[u32], running: u32, period: u64) -> bool {
-    let releases = log.chunks_exact(2).filter(|release| release[1] == running);
-    let ticks: Vec<u64> = releases.map(|release| u64::from(release[0])).collect();
-    ticks.windows(2).all(|two| two[1] - two[0] >= period)
-}
-
-/// Checks the releases of one stream and answers how many it could check.
-fn check_bound(case: &Case, begins: &[u32], running: u32, wait: u64) -> u64 {
-    let mut checked = 0;
-    for (release, begin) in case.log.chunks_exact(2).zip(begins) {
-        let tick = u64::from(release[0]);
-        if release[1] == running && tick + wait < u64::from(case.horizon) {
-            assert_ne!(*begin, NOT_BEGUN);
-            assert!(u64::from(*begin) >= tick && u64::from(*begin) <= tick + wait);
-            checked += 1;
-        }
-    }
-    checked
-}
-
-#[test]
-fn no_message_waits_longer_than_listed() {
-    let mut checked = 0;
-    for index in 0..4_000 {
-        let case = case(14, index);
-        let mut begins = vec![OLD; case.log.len().div_ceil(2)];
-        if replay(&case.sheet, &case.log, case.horizon, &mut begins).number != 0 {
-            continue;
-        }
-        let plain = plain(&case.sheet);
-        let mut first = 1;
-        for (node, (_, streams)) in plain.nodes.iter().enumerate() {
-            let kept =
-                |other: usize| keeps_period(&case.log, first + other as u32, streams[other].0);
-            for stream in 0..streams.len() {
-                let given = one_stream(&case.sheet, node as u32 + 1, stream as u32 + 1);
-                let mut higher = (0..streams.len())
-                    .filter(|&other| other == stream || ranks_above(streams, other, stream));
-                if given.number == 0 && higher.all(kept) {
-                    let running = first + stream as u32;
-                    checked += check_bound(&case, &begins, running, u64::from(given.second));
-                }
-            }
-            first += streams.len() as u32;
-        }
-    }
-    assert!(checked > 2_000, "{checked}");
 }

@@ -95,10 +95,7 @@ fn sample_sheet_a() {
 
 #[test]
 fn sample_sheet_p7() {
-    assert_eq!(
-        admit_program(&sample("sheet-p7.txt")),
-        "node stream wait\n1 1 5\n1 2 17\nadmitted 2\n"
-    );
+    assert_eq!(admit_program(&sample("sheet-p7.txt")), "refused 7 at 1 1\n");
     assert_eq!(
         sample_replay("sheet-p7"),
         "release begin\n1 0\n2 6\n3 18\n4 12\n5 24\n6 -\nturns 5 next 30\n"

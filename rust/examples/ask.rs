@@ -62,11 +62,11 @@ fn be_refused() {
     println!("an empty sheet: {empty}");
 
     let mut sheet = SHEET_A;
-    sheet[10] = 37;
-    sheet[12] = 37;
+    sheet[10] = 38;
+    sheet[12] = 38;
     let late = admit(&sheet, &mut [0; MAX_STREAMS]).expect_err("the stream is late");
     assert_eq!(late.reason(), Reason::Late);
-    println!("deadlines of 37: {late}");
+    println!("deadlines of 38: {late}");
 }
 
 fn main() -> Result<(), Refusal> {

@@ -36,7 +36,7 @@ fn make_and_ask(tables: &Tables) -> Result<(), Refusal> {
 fn main() {
     for (what, deadlines) in [
         ("sheet A from its tables", &[40, 60, 30]),
-        ("both deadlines of node 1 cut to 37", &[37, 37, 30]),
+        ("both deadlines of node 1 cut to 38", &[38, 38, 30]),
         ("a deadline of 61 for a period of 60", &[40, 61, 30]),
     ] {
         println!("{what}");

@@ -46,7 +46,7 @@ pub use refusal::{Reason, Refusal};
 /// ```
 /// // Before horizon 0 no turn starts.
 /// let mut room = [7; 1];
-/// let replayed = wistorvan::replay(&[1, 5, 1, 6, 1, 1, 10, 10], &[0, 1], 0, &mut room).unwrap();
+/// let replayed = wistorvan::replay(&[1, 5, 1, 6, 1, 1, 20, 20], &[0, 1], 0, &mut room).unwrap();
 /// assert_eq!(replayed.begins, [wistorvan::NOT_BEGUN]);
 /// ```
 pub const NOT_BEGUN: u32 = 4294967295;
@@ -56,7 +56,7 @@ pub const NOT_BEGUN: u32 = 4294967295;
 ///
 /// ```
 /// let mut room = [0; wistorvan::MAX_STREAMS];
-/// assert!(wistorvan::admit(&[1, 5, 1, 6, 1, 1, 10, 10], &mut room).is_ok());
+/// assert!(wistorvan::admit(&[1, 5, 1, 6, 1, 1, 20, 20], &mut room).is_ok());
 /// ```
 pub const MAX_STREAMS: usize = 256;
 
@@ -65,7 +65,7 @@ pub const MAX_STREAMS: usize = 256;
 ///
 /// ```
 /// let mut room = [0; wistorvan::MAX_RELEASES];
-/// assert!(wistorvan::replay(&[1, 5, 1, 6, 1, 1, 10, 10], &[2, 1], 4, &mut room).is_ok());
+/// assert!(wistorvan::replay(&[1, 5, 1, 6, 1, 1, 20, 20], &[2, 1], 4, &mut room).is_ok());
 /// ```
 pub const MAX_RELEASES: usize = 4096;
 
@@ -177,7 +177,7 @@ pub struct Tables<'t> {
 ///
 /// ```
 /// // One node with a budget of 1 and one stream: full cycle 6.
-/// let listed = wistorvan::one_stream(&[1, 5, 1, 6, 1, 1, 10, 10], 1, 1).unwrap();
+/// let listed = wistorvan::one_stream(&[1, 5, 1, 6, 1, 1, 20, 20], 1, 1).unwrap();
 /// assert_eq!((listed.wait, listed.cycles), (5, 1));
 /// ```
 #[derive(Clone, Copy, PartialEq, Eq, Hash, Debug)]
@@ -195,7 +195,7 @@ pub struct ListedWait {
 ///
 /// ```
 /// let mut room = [0; 1];
-/// let admission = wistorvan::admit(&[1, 5, 1, 6, 1, 1, 10, 10], &mut room).unwrap();
+/// let admission = wistorvan::admit(&[1, 5, 1, 6, 1, 1, 20, 20], &mut room).unwrap();
 /// assert_eq!((admission.waits.len(), admission.cycle), (1, 6));
 /// ```
 #[derive(Clone, Copy, PartialEq, Eq, Hash, Debug)]
@@ -212,7 +212,7 @@ pub struct Admission<'r> {
 /// ```
 /// // One release at tick 2, during the third of the idle bus's turns.
 /// let mut room = [0; 1];
-/// let replay = wistorvan::replay(&[1, 5, 1, 6, 1, 1, 10, 10], &[2, 1], 4, &mut room).unwrap();
+/// let replay = wistorvan::replay(&[1, 5, 1, 6, 1, 1, 20, 20], &[2, 1], 4, &mut room).unwrap();
 /// assert_eq!((replay.begins[0], replay.turns, replay.next), (2, 3, 8));
 /// ```
 #[derive(Clone, Copy, PartialEq, Eq, Hash, Debug)]
@@ -233,7 +233,7 @@ pub struct Replay<'r> {
 ///
 /// // Nothing is released: the turn is one slot long.
 /// let mut bus = Bus::START;
-/// let step = step(&[1, 5, 1, 6, 1, 1, 10, 10], &[], &mut bus, &mut []).unwrap();
+/// let step = step(&[1, 5, 1, 6, 1, 1, 20, 20], &[], &mut bus, &mut []).unwrap();
 /// assert_eq!((step.taken, step.next), (0, 1));
 /// ```
 #[derive(Clone, Copy, PartialEq, Eq, Hash, Debug)]
@@ -280,7 +280,7 @@ pub struct Written<'r> {
 /// ```
 /// use wistorvan::{check_sheet, Reason};
 ///
-/// assert!(check_sheet(&[1, 5, 1, 6, 1, 1, 10, 10]).is_ok());
+/// assert!(check_sheet(&[1, 5, 1, 6, 1, 1, 20, 20]).is_ok());
 /// // A deadline longer than its period.
 /// let refusal = check_sheet(&[1, 5, 1, 6, 1, 1, 10, 11]).unwrap_err();
 /// assert_eq!((refusal.reason(), refusal.place()), (Reason::BadStream, (1, 1)));
@@ -325,8 +325,8 @@ pub fn one_stream(sheet: &[u32], node: u32, stream: u32) -> Result<ListedWait, R
 /// let mut room = [0; MAX_STREAMS];
 /// assert_eq!(admit(&sheet, &mut room).unwrap().waits, [16, 33, 16]);
 /// // The deadlines of node 1: the shorter period goes first, and stream 2 is late.
-/// sheet[10] = 37;
-/// sheet[12] = 37;
+/// sheet[10] = 38;
+/// sheet[12] = 38;
 /// let refusal = admit(&sheet, &mut room).unwrap_err();
 /// assert_eq!((refusal.reason(), refusal.place()), (Reason::Late, (1, 2)));
 /// ```

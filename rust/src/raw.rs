@@ -100,7 +100,7 @@ mod linked {
 /// [`crate::check_sheet`]: 0 0 0 for a valid sheet.
 ///
 /// ```
-/// let answer = wistorvan::raw::check_sheet(&[1, 5, 1, 6, 1, 1, 10, 10]);
+/// let answer = wistorvan::raw::check_sheet(&[1, 5, 1, 6, 1, 1, 20, 20]);
 /// assert_eq!(answer.number, 0);
 /// ```
 #[must_use]
@@ -111,7 +111,7 @@ pub fn check_sheet(sheet: &[u32]) -> Answer {
 /// [`crate::one_stream`]: the listed wait and J.
 ///
 /// ```
-/// let answer = wistorvan::raw::one_stream(&[1, 5, 1, 6, 1, 1, 10, 10], 1, 1);
+/// let answer = wistorvan::raw::one_stream(&[1, 5, 1, 6, 1, 1, 20, 20], 1, 1);
 /// assert_eq!((answer.number, answer.second, answer.third), (0, 5, 1));
 /// ```
 #[must_use]
@@ -124,7 +124,7 @@ pub fn one_stream(sheet: &[u32], node: u32, stream: u32) -> Answer {
 ///
 /// ```
 /// let mut room = [0; 1];
-/// let answer = wistorvan::raw::admit(&[1, 5, 1, 6, 1, 1, 10, 10], &mut room);
+/// let answer = wistorvan::raw::admit(&[1, 5, 1, 6, 1, 1, 20, 20], &mut room);
 /// assert_eq!((answer.number, answer.second, answer.third), (0, 1, 6));
 /// assert_eq!(room, [5]);
 /// ```
@@ -138,7 +138,7 @@ pub fn admit(sheet: &[u32], room: &mut [u32]) -> Answer {
 ///
 /// ```
 /// let mut room = [0; 1];
-/// let answer = wistorvan::raw::replay(&[1, 5, 1, 6, 1, 1, 10, 10], &[2, 1], 4, &mut room);
+/// let answer = wistorvan::raw::replay(&[1, 5, 1, 6, 1, 1, 20, 20], &[2, 1], 4, &mut room);
 /// assert_eq!((answer.number, answer.second, answer.third), (0, 3, 8));
 /// assert_eq!(room, [2]);
 /// ```
@@ -163,7 +163,7 @@ pub fn replay(sheet: &[u32], log: &[u32], horizon: u32, room: &mut [u32]) -> Ans
 /// use wistorvan::{raw, Bus, NOT_BEGUN};
 ///
 /// let (mut bus, mut room) = (Bus::START, [NOT_BEGUN; 1]);
-/// let answer = raw::step(&[1, 5, 1, 6, 1, 1, 10, 10], &[0, 1], &mut bus, &mut room);
+/// let answer = raw::step(&[1, 5, 1, 6, 1, 1, 20, 20], &[0, 1], &mut bus, &mut room);
 /// assert_eq!((answer.number, answer.second, answer.third), (0, 1, 6));
 /// assert_eq!((room, bus.tick, bus.turns), ([0], 6, 1));
 /// ```

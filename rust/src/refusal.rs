@@ -43,8 +43,9 @@ pub enum Reason {
     /// 6: the room is shorter than one word a stream (admit) or a release
     /// (replay, step), or than the sheet (write sheet). Place 0, 0.
     RoomTooShort,
-    /// 7: a stream is late: the first in sheet order (admit) or the asked one
-    /// (one stream). Place node, stream.
+    /// 7: a stream is late, as a message of it could be delivered, when its
+    /// turn's protocol slot ends, after its deadline: the first in sheet order
+    /// (admit) or the asked one (one stream). Place node, stream.
     Late,
     /// 8: the sheet has no such stream. Place node, stream as asked.
     NoSuchStream,
@@ -70,8 +71,8 @@ pub enum Reason {
 /// ```
 /// use wistorvan::{admit, Reason};
 ///
-/// // Sheet A with 37 for both deadlines of node 1.
-/// let sheet = [2, 5, 1, 9, 2, 1, 13, 1, 2, 40, 37, 60, 37, 30, 30];
+/// // Sheet A with 38 for both deadlines of node 1.
+/// let sheet = [2, 5, 1, 9, 2, 1, 13, 1, 2, 40, 38, 60, 38, 30, 30];
 /// let refusal = admit(&sheet, &mut [0; 3]).unwrap_err();
 /// assert_eq!(refusal.reason(), Reason::Late);
 /// assert_eq!(refusal.number(), 7);
@@ -103,7 +104,7 @@ impl Refusal {
     ///
     /// ```
     /// // A wrong place of the body of node 1.
-    /// let refusal = wistorvan::check_sheet(&[1, 5, 1, 7, 1, 1, 10, 10]).unwrap_err();
+    /// let refusal = wistorvan::check_sheet(&[1, 5, 1, 7, 1, 1, 20, 20]).unwrap_err();
     /// assert_eq!(refusal.place(), (1, 0));
     /// ```
     #[must_use]

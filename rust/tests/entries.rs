@@ -204,14 +204,14 @@ fn a_late_stream() {
         sheet[12] = deadline;
         sheet
     };
-    let sheet = both(37);
+    let sheet = both(38);
     let why = "stream 2 of node 1 would be late";
     let mut room = [7; 3];
     let refusal = admit(&sheet, &mut room).unwrap_err();
     assert_refusal(refusal, Reason::Late, 7, (1, 2), why);
     assert_eq!(room, [7; 3]);
     assert_eq!(one_stream(&sheet, 1, 2), Err(refusal));
-    let admission = admit(&both(38), &mut room).unwrap();
+    let admission = admit(&both(39), &mut room).unwrap();
     assert_eq!(admission.waits, [16, 33, 16]);
     // The shorter deadline goes first, though its period is longer.
     let admission = admit(&sheet_a_with(12, 37), &mut room).unwrap();

@@ -8,6 +8,7 @@ use mathlib.Core.Bool.{Bool, true, false, cond}
 use mathlib.Core.List.{List, _∷_}
 use lib.ListN.{length, length-map, getD}
 use Rattle.model.specs.declared.Stream.{Stream}
+use Rattle.model.specs.Limits.{maxTime}
 use Rattle.model.specs.Sheet.{nodes, place, streamCount, period, deadline, OnSheet}
 use Rattle.model.specs.Analysis.{streamOf, streamsFrom, streamsOf, outranks, above, timingOf}
 use Rattle.model.proofs.Sheet.ValidSheet.{SheetFits}
@@ -69,13 +70,16 @@ module _ (s : List ℕ) (k : ℕ) (x : Stream) where
         positive = above-positive 1 (streamCount s k) (λ i from to. fits .streams k i (record { nodeFrom = low; nodeTo = high; streamFrom = from; streamTo = omega arith }) .periodFrom);
       }
 
--- The timing of a node and the deadline of a stream are in range.
-pub stream-ranges : (s : List ℕ) (k j : ℕ) → SheetFits s → OnSheet s k j → Ranges (timingOf s k) (deadline s k j)
-stream-ranges s k j fits on =
-    let stream = fits .streams k j on in
+-- The timing of a node is in range,
+pub node-ranges : (s : List ℕ) (k : ℕ) → SheetFits s → 1 ≤ k → k ≤ nodes s → Ranges (timingOf s k)
+node-ranges s k fits low high =
     record {
       cycleFrom = cycle-least s fits;
-      budgetTo = fits .rows k (on .nodeFrom) (on .nodeTo) .budgetTo;
+      budgetTo = fits .rows k low high .budgetTo;
       messageTo = fits .header .messageTo;
-      deadlineTo = le-trans (stream .deadlineTo) (stream .periodTo);
+      slotTo = fits .header .slotTo;
     }
+
+-- and so is the deadline of a stream.
+pub deadline-range : (s : List ℕ) (k j : ℕ) → SheetFits s → OnSheet s k j → deadline s k j ≤ maxTime
+deadline-range s k j fits on = let stream = fits .streams k j on in le-trans (stream .deadlineTo) (stream .periodTo)

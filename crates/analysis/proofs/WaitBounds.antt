@@ -10,9 +10,9 @@ use Rattle.model.specs.Analysis.{waitFor}
 use Rattle.analysis.specs.Periods.{interferenceBy}
 use Rattle.analysis.specs.InRange.{Ranges, FoundJ}
 
-module _ {periods : List ℕ} {t : Timing} {deadline J h before : ℕ}
-    (ranges : Ranges t deadline)
-    (at : FoundJ periods t deadline J h)
+module _ {periods : List ℕ} {t : Timing} {J h before : ℕ}
+    (ranges : Ranges t)
+    (at : FoundJ periods t J h)
     (turns : before ≡ pred J * t .budget)
   where
     -- The places of the turns before are all taken.
@@ -29,9 +29,9 @@ module _ {periods : List ℕ} {t : Timing} {deadline J h before : ℕ}
     pub window-least : 1 ≤ J * t .cycle
     window-least = one-le-mul (at .fromOne) (omega (arith, ranges .cycleFrom))
 
-    -- The messages taken before in the turn are a budget's at most.
-    pub ticks-most : (h - before) * t .message ≤ 160_000
-    ticks-most = mul-le-mul {n₂ = maxBudget} {m₂ = maxSlotTicks} (omega (arith, place-most)) (ranges .messageTo)
+    -- A message or a slot for each place before it in the turn: no more than a budget of the longest.
+    pub ticks-most : {ticks : ℕ} → ticks ≤ maxSlotTicks → (h - before) * ticks ≤ 160_000
+    ticks-most short = mul-le-mul {n₂ = maxBudget} {m₂ = maxSlotTicks} (omega (arith, place-most)) short
 
     -- The sum is the definition's.
     pub wait-exact : J * t .cycle - 1 + (h - before) * t .message ≡ waitFor (interferenceBy periods) t J

@@ -20,17 +20,17 @@ pub record Divisors (periods : List ℕ) : Type 0 where
   pub few : length periods ≤ maxStreams
   pub positive : (i : ℕ) → i < length periods → 1 ≤ getD periods i 0
 
--- A timing and a deadline as a valid sheet has them.
-pub record Ranges (t : Timing) (deadline : ℕ) : Type 0 where
+-- A timing as a valid sheet has it.
+pub record Ranges (t : Timing) : Type 0 where
   pub cycleFrom : 2 ≤ t .cycle
   pub budgetTo : t .budget ≤ maxBudget
   pub messageTo : t .message ≤ maxSlotTicks
-  pub deadlineTo : deadline ≤ maxTime
+  pub slotTo : t .slot ≤ maxSlotTicks
 
 -- The search has come to J: h is the interference in J cycles, which J turns have places beyond, and J - 1 turns had not.
-pub record FoundJ (periods : List ℕ) (t : Timing) (deadline J h : ℕ) : Type 0 where
+pub record FoundJ (periods : List ℕ) (t : Timing) (J h : ℕ) : Type 0 where
   pub fromOne : 1 ≤ J
-  pub cyclesTo : J * t .cycle ≤ deadline + 1
+  pub cyclesTo : J * t .cycle ≤ maxTime + 1
   pub counted : h ≡ interferenceBy periods (J * t .cycle - 1)
   pub enough : h < J * t .budget
   pub filled : pred J * t .budget ≤ h

@@ -3,7 +3,7 @@ ghost use mathlib.Core.Path.{_≡_};
 ghost use Prim.Native.Nat.{_^_, _≤_, _<_};
 ghost use Rattle.model.specs.Limits.{maxTime};
 ghost use Rattle.model.specs.Sheet.{cycle as fullCycle, OnSheet, Valid};
-ghost use Rattle.model.specs.Analysis.{mostReleases, verdictAt, verdict, triesWorth, timingOf, verdictOf};
+ghost use Rattle.model.specs.Analysis.{mostReleases, waitFor, verdict, triesWorth, timingOf, verdictOf};
 ghost use Rattle.analysis.specs.Periods.{interferenceBy};
 ghost use Rattle.analysis.specs.InRange.{Divisors, Ranges, FoundJ};
 use crate::higher::higher_periods;
@@ -42,35 +42,31 @@ fn interference_of(periods: &[u32], w: u32) -> u64
     sum
 }
 
-// How many J are worth a try.
+// How many J are worth a try: the late test. A message is delivered when the turn that has it is over, so of the deadline the
+// longest turn, its protocol slot included, is taken off.
 fn tries_worth(timing: Timing, deadline: u32) -> u32
-    requires { ⌜ (0 < timing .cycle) × (deadline ≤ maxTime) ⌝ }
+    requires { ⌜ Ranges timing × (deadline ≤ maxTime) ⌝ }
     ensures { λ r. ⌜ r ≡ triesWorth timing deadline ⌝ }
 {
-    if deadline + 1 < timing.message {
-        0
-    } else {
-        (deadline + 1 - timing.message) / timing.cycle
+    let turn = timing.budget * timing.message + timing.slot;
+    if deadline < turn {
+        return 0;
     }
+    (deadline + 1 - turn) / timing.cycle
 }
 
-// The verdict at J, "cycles", where h is the interference in so many: the late test.
-fn verdict_at(periods: &[u32], h: u64, cycles: u32, timing: Timing, deadline: u32) -> Verdict
-    requires { ⌜ Ranges timing deadline × FoundJ (now periods) timing deadline cycles h ⌝ }
-    ensures { λ r. ⌜ r ≡ verdictAt (interferenceBy (now (periods .entry))) timing deadline cycles ⌝ }
+// The listed wait at J, "cycles", where h is the interference in so many.
+fn wait_at(periods: &[u32], h: u64, cycles: u32, timing: Timing) -> u32
+    requires { ⌜ Ranges timing × FoundJ (now periods) timing cycles h ⌝ }
+    ensures { λ r. ⌜ r ≡ waitFor (interferenceBy (now (periods .entry))) timing cycles ⌝ }
 {
     let place = h - long(cycles - 1) * long(timing.budget);
-    let wait = cycles * timing.cycle - 1 + place as u32 * timing.message;
-    if deadline < wait + timing.message {
-        Verdict::Late
-    } else {
-        Verdict::Listed { wait, cycles }
-    }
+    cycles * timing.cycle - 1 + place as u32 * timing.message
 }
 
-// The search for J: 1, 2 and so on, as long as so many cycles can meet the deadline.
+// The search for J: 1, 2 and so on, as long as so many cycles are worth a try.
 fn search_from_one(periods: &[u32], timing: Timing, deadline: u32) -> Verdict
-    requires { ⌜ Divisors (now periods) × Ranges timing deadline ⌝ }
+    requires { ⌜ Divisors (now periods) × Ranges timing × (deadline ≤ maxTime) ⌝ }
     ensures { λ r. ⌜ r ≡ verdict (interferenceBy (now (periods .entry))) timing deadline ⌝ }
 {
     let tries = tries_worth(timing, deadline);
@@ -78,7 +74,8 @@ fn search_from_one(periods: &[u32], timing: Timing, deadline: u32) -> Verdict
     while cycles <= tries {
         let h = interference_of(periods, cycles * timing.cycle - 1);
         if h < long(cycles) * long(timing.budget) {
-            return verdict_at(periods, h, cycles, timing, deadline);
+            let wait = wait_at(periods, h, cycles, timing);
+            return Verdict::Listed { wait, cycles };
         }
         cycles += 1;
     }

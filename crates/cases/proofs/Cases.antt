@@ -1,4 +1,4 @@
--- P1 to P12, and the further cases: the definitions answer every one as stated. Both sides compute to the same.
+-- The cases of the list, and the further ones: the definitions answer every one as stated. Both sides compute to the same.
 -- Assumes nothing.
 use mathlib.Core.Path.{refl}
 use Rattle.theory.specs.Sum.{sum, upTo}
@@ -6,10 +6,10 @@ use Rattle.theory.specs.Queue.{firstIn, first, firstOnes}
 use Rattle.theory.specs.Listing.{valuesFrom, joinedFrom}
 use Rattle.model.specs.Refusal.{refuseIf, _orElse_, firstOf, outside}
 use Rattle.model.specs.Sheet.{cycle, ticksOutside, countsOutside, timesOutside, rowWrong, rowRefusal, streamRefusal, bodyRefusal, headerRefusal, sheetRefusal}
-use Rattle.model.specs.Analysis.{streamsFrom, outranks, above, mostReleases, interference, waitFor, lateAt, verdictAt, search, verdict, verdictOf}
+use Rattle.model.specs.Analysis.{streamsFrom, outranks, above, mostReleases, interference, waitFor, search, verdict, verdictOf}
 use Rattle.model.specs.Protocol.{ofNode, queuedBefore, waiting, beginsFrom, serve, nextNode, nextBus, turn, start, run, replayed}
 use Rattle.model.specs.Answers.{roomRefusal, tickBefore, releaseRefusal, logRefusal, horizonRefusal, lateRefusal, nodeLateRefusal, waitWord, bufferAfter, unknownRefusal, verdictAnswer, recordRefusal, oneStreamAnswer, admitAnswer, admitBuffer, replayAnswer, replayBuffer, stepRefusal, stepAnswer, stepBus, stepBuffer}
-use Rattle.model.specs.Bench.{sheetA, sheetA6, sheetP7, logP9, logP11}
+use Rattle.model.specs.Bench.{sheetA, sheetA6, sheetP7, sheetPair, logP9, logP11}
 use Rattle.cases.specs.Cases.{AllHold, cases, gives, outcomeOf, lent, Further, sheetEqual, logBoth, madeUpBus, madeUpRoom}
 
 pub all-hold : AllHold
@@ -17,7 +17,7 @@ unfolding
     sum upTo firstIn first firstOnes
     refuseIf _orElse_ firstOf outside
     cycle ticksOutside countsOutside timesOutside rowWrong rowRefusal streamRefusal bodyRefusal headerRefusal sheetRefusal
-    streamsFrom outranks above mostReleases interference waitFor lateAt verdictAt search verdict verdictOf
+    streamsFrom outranks above mostReleases interference waitFor search verdict verdictOf
     ofNode queuedBefore waiting beginsFrom serve nextNode nextBus turn start run replayed
     roomRefusal tickBefore releaseRefusal logRefusal horizonRefusal lateRefusal nodeLateRefusal waitWord valuesFrom joinedFrom bufferAfter
     admitAnswer admitBuffer replayAnswer replayBuffer
@@ -29,20 +29,25 @@ unfolding
     sum upTo firstIn first firstOnes
     refuseIf _orElse_ firstOf outside
     cycle ticksOutside countsOutside timesOutside rowWrong rowRefusal streamRefusal bodyRefusal headerRefusal sheetRefusal
-    streamsFrom outranks above mostReleases interference waitFor lateAt verdictAt search verdict verdictOf
+    streamsFrom outranks above mostReleases interference waitFor search verdict verdictOf
     ofNode queuedBefore waiting beginsFrom serve nextNode nextBus turn start run replayed
     unknownRefusal verdictAnswer oneStreamAnswer
     roomRefusal tickBefore releaseRefusal logRefusal horizonRefusal lateRefusal nodeLateRefusal waitWord valuesFrom joinedFrom bufferAfter
     admitAnswer admitBuffer replayAnswer replayBuffer recordRefusal stepRefusal stepAnswer stepBus stepBuffer
-    lent sheetA logP11 sheetEqual logBoth madeUpBus madeUpRoom
+    lent sheetA sheetP7 sheetPair logP11 sheetEqual logBoth madeUpBus madeUpRoom
 further =
     record {
       secondStream = refl;
       threeCycles = refl;
       otherNode = refl;
+      atDeadline = refl;
       lateStream = refl;
       unknownStream = refl;
       lateUnwritten = refl;
+      firstOfTwo = refl;
+      turnTooLong = refl;
+      countedWhileWaiting = refl;
+      inTimeAlone = refl;
       equalPeriods = refl;
       equalDeadlines = refl;
       bothEqual = refl;

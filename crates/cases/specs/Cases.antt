@@ -1,4 +1,4 @@
--- "Bench sheets": P1 to P12 of document 01 as one list, each with its whole outcome; and further cases. A case lends a buffer of 9s that is one
+-- "Bench sheets": P1 to P12 of document 01, and the one that document 02 adds, as one list, each with its whole outcome; and further cases. A case lends a buffer of 9s that is one
 -- word longer than needed, so that the words an entry must leave are seen too. Rules 10. Assumes nothing.
 use Prim.Native.Nat.{ℕ, suc}
 use mathlib.Core.Path.{_≡_}
@@ -11,7 +11,7 @@ use Rattle.model.specs.Refusal.{success, refuse}
 use Rattle.model.specs.Sheet.{totalStreams}
 use Rattle.model.specs.Protocol.{releases, start}
 use Rattle.model.specs.Answers.{oneStreamAnswer, admitAnswer, admitBuffer, replayAnswer, replayBuffer, stepAnswer, stepBus, stepBuffer}
-use Rattle.model.specs.Bench.{sheetA, sheetA6, sheetP7, logP9, logP11}
+use Rattle.model.specs.Bench.{sheetA, sheetA6, sheetP7, sheetPair, logP9, logP11}
 
 -- What is asked: admit a sheet; or replay a log on it up to a horizon.
 pub data Question : Type 0 where
@@ -44,16 +44,17 @@ outcomeOf (replay s log horizon) =
 unfoldable pub gives : Question → Answer → List ℕ → Case
 gives q a words = record { question = q; outcome = record { answer = a; buffer = words } }
 
--- P1 to P12, in order.
+-- P1 to P12, in order; after P2 the one that Four adds, P2 "with node 1's first deadline also 38".
 unfoldable pub cases : List Case
 cases =
     gives (admit (sheetA 40 40 60)) (success 3 17) (16 ∷ 33 ∷ 16 ∷ 9 ∷ [])
     ∷ gives (admit (sheetA 40 40 38)) (success 3 17) (33 ∷ 16 ∷ 16 ∷ 9 ∷ [])
+    ∷ gives (admit (sheetA 40 38 38)) (refuse 7 1 2) (9 ∷ 9 ∷ 9 ∷ 9 ∷ [])
     ∷ gives (admit (sheetA 40 40 37)) (success 3 17) (33 ∷ 16 ∷ 16 ∷ 9 ∷ [])
     ∷ gives (admit (sheetA 34 34 60)) (success 3 17) (16 ∷ 33 ∷ 16 ∷ 9 ∷ [])
     ∷ gives (admit (sheetA 33 33 60)) (success 3 17) (16 ∷ 50 ∷ 16 ∷ 9 ∷ [])
     ∷ gives (admit sheetA6) (success 4 17) (16 ∷ 33 ∷ 16 ∷ 21 ∷ 9 ∷ [])
-    ∷ gives (admit (sheetP7 10)) (success 2 6) (5 ∷ 17 ∷ 9 ∷ [])
+    ∷ gives (admit (sheetP7 10)) (refuse 7 1 1) (9 ∷ 9 ∷ 9 ∷ [])
     ∷ gives (admit (sheetP7 9)) (refuse 7 1 1) (9 ∷ 9 ∷ 9 ∷ [])
     ∷ gives (replay (sheetA 40 40 60) logP9 40) (success 25 40) (0 ∷ 12 ∷ 6 ∷ 9 ∷ [])
     ∷ gives (replay (sheetA 40 40 60) logP9 12) (success 2 12) (0 ∷ notBegun ∷ 6 ∷ 9 ∷ [])
@@ -82,23 +83,29 @@ madeUpBus = record { tick = 7; node = 2; turns = 5 }
 unfoldable pub madeUpRoom : List ℕ
 madeUpRoom = 3 ∷ notBegun ∷ 4 ∷ notBegun ∷ notBegun ∷ []
 
--- Cases beside P1 to P12: one stream with its wait and J; rank by deadline, then by period (61 is the longer one), then by number, in waits,
--- replay and step; the order of refusals; and one step over a made-up buffer.
+-- Cases beside those: one stream with its wait and J; the late test at its edge, in the first turn and in the second, and for a message that is
+-- first in a turn of two; releases that come while a stream waits; rank by deadline, then by period (61 is the longer one), then by number, in
+-- waits, replay and step; the order of refusals; and one step over a made-up buffer.
 pub record Further : Type 0 where
   pub secondStream : oneStreamAnswer (sheetA 40 40 60) 1 2 ≡ success 33 2
   pub threeCycles : oneStreamAnswer (sheetA 33 33 60) 1 2 ≡ success 50 3
   pub otherNode : oneStreamAnswer (sheetA 40 40 60) 2 1 ≡ success 16 1
-  pub lateStream : oneStreamAnswer (sheetA 40 37 37) 1 2 ≡ refuse 7 1 2
-  pub unknownStream : oneStreamAnswer (sheetA 40 37 37) 2 2 ≡ refuse 8 2 2
-  pub lateUnwritten : admitBuffer (sheetA 40 37 37) (lent 3) ≡ 9 ∷ 9 ∷ 9 ∷ 9 ∷ []
+  pub atDeadline : oneStreamAnswer (sheetA 40 39 39) 1 2 ≡ success 33 2
+  pub lateStream : oneStreamAnswer (sheetA 40 38 38) 1 2 ≡ refuse 7 1 2
+  pub unknownStream : oneStreamAnswer (sheetA 40 38 38) 2 2 ≡ refuse 8 2 2
+  pub lateUnwritten : admitBuffer (sheetA 40 38 38) (lent 3) ≡ 9 ∷ 9 ∷ 9 ∷ 9 ∷ []
+  pub firstOfTwo : oneStreamAnswer (sheetPair 27) 2 1 ≡ success 16 1
+  pub turnTooLong : oneStreamAnswer (sheetPair 26) 2 1 ≡ refuse 7 2 1
+  pub countedWhileWaiting : oneStreamAnswer (sheetP7 10) 1 2 ≡ success 17 3
+  pub inTimeAlone : admitBuffer (sheetP7 11) (lent 2) ≡ 5 ∷ 17 ∷ 9 ∷ []
   pub equalPeriods : admitBuffer sheetEqual (lent 3) ≡ 15 ∷ 10 ∷ 21 ∷ 9 ∷ []
-  pub equalDeadlines : admitBuffer (sheetA 61 38 38) (lent 3) ≡ 33 ∷ 16 ∷ 16 ∷ 9 ∷ []
-  pub bothEqual : admitBuffer (sheetA 60 38 38) (lent 3) ≡ 16 ∷ 33 ∷ 16 ∷ 9 ∷ []
+  pub equalDeadlines : admitBuffer (sheetA 61 39 39) (lent 3) ≡ 33 ∷ 16 ∷ 16 ∷ 9 ∷ []
+  pub bothEqual : admitBuffer (sheetA 60 39 39) (lent 3) ≡ 16 ∷ 33 ∷ 16 ∷ 9 ∷ []
   pub replayByDeadline : replayBuffer (sheetA 40 40 38) logBoth 8 (lent 2) ≡ 7 ∷ 0 ∷ 9 ∷ []
-  pub replayByPeriod : replayBuffer (sheetA 61 38 38) logBoth 8 (lent 2) ≡ 7 ∷ 0 ∷ 9 ∷ []
-  pub replayByNumber : replayBuffer (sheetA 60 38 38) logBoth 8 (lent 2) ≡ 0 ∷ 7 ∷ 9 ∷ []
+  pub replayByPeriod : replayBuffer (sheetA 61 39 39) logBoth 8 (lent 2) ≡ 7 ∷ 0 ∷ 9 ∷ []
+  pub replayByNumber : replayBuffer (sheetA 60 39 39) logBoth 8 (lent 2) ≡ 0 ∷ 7 ∷ 9 ∷ []
   pub stepByDeadline : stepBuffer (sheetA 40 40 38) logBoth (start logBoth .bus) (start logBoth .begins) ≡ notBegun ∷ 0 ∷ []
-  pub roomBeforeLate : admitAnswer (sheetA 40 37 37) 2 ≡ refuse 6 0 0
+  pub roomBeforeLate : admitAnswer (sheetA 40 38 38) 2 ≡ refuse 6 0 0
   pub sheetBeforeRoom : admitAnswer (sheetA 0 0 60) 0 ≡ refuse 5 1 1
   pub logBeforeHorizon : replayAnswer (sheetA 40 40 60) (0 ∷ 4 ∷ []) 1_000_000_001 0 ≡ refuse 9 0 1
   pub horizonBeforeRoom : replayAnswer (sheetA 40 40 60) (0 ∷ 1 ∷ []) 1_000_000_001 0 ≡ refuse 10 0 0

@@ -8,7 +8,9 @@ pub mod Distance
 pub mod ClassStreams
 pub mod TurnMessages
 pub mod WithinWait
+pub mod Delivery
 pub mod Demand3
 pub mod ReplayDemand
 pub mod Applied
 pub mod Urgent
+pub mod Paired

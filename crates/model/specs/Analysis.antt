@@ -69,47 +69,48 @@ placeInTurn H t J = H (J * t .cycle - 1) - pred J * t .budget
 unfoldable pub waitFor : (ℕ → ℕ) → Timing → ℕ → ℕ
 waitFor H t J = J * t .cycle - 1 + placeInTurn H t J * t .message
 
--- The latest delivery after a release, for a J: "delivered TMS ticks after it begins".
-abbrev pub deliveredAfter : (ℕ → ℕ) → Timing → ℕ → ℕ
-deliveredAfter H t J = waitFor H t J + t .message
+-- The longest turn of a node: its budget of messages and its protocol slot, "budget × TMS + TPR".
+abbrev pub longestTurn : Timing → ℕ
+longestTurn t = t .budget * t .message + t .slot
 
--- The late test at a J: "listed wait + TMS is more than its deadline".
-unfoldable pub lateAt : (ℕ → ℕ) → Timing → ℕ → ℕ → Bool
-lateAt H t deadline J = ltb deadline (deliveredAfter H t J)
+-- The latest delivery after a release, for a J: "J × C − 1 + budget × TMS + TPR". A message is delivered "at the end of the turn's
+-- protocol slot", so the whole turn counts, whatever the place in it.
+abbrev pub deliveredAfter : Timing → ℕ → ℕ
+deliveredAfter t J = J * t .cycle - 1 + longestTurn t
 
--- How many J are worth a try: the largest with J × C − 1 + TMS not above the deadline. A larger one is late, whatever its place in
--- the turn.
+-- The late test at a J: the latest delivery "is more than its deadline".
+unfoldable pub lateAt : Timing → ℕ → ℕ → Bool
+lateAt t deadline J = ltb deadline (deliveredAfter t J)
+
+-- How many J are worth a try: the largest with J × C − 1 + budget × TMS + TPR not above the deadline. proofs/Analysis/Wait says that
+-- they are the ones from 1 up that the late test passes.
 abbrev pub triesWorth : Timing → ℕ → ℕ
-triesWorth t deadline = (deadline + 1 - t .message) / t .cycle
+triesWorth t deadline = (deadline + 1 - longestTurn t) / t .cycle
 
--- A stream has the listed wait w, at J, which meets its deadline.
+-- A stream has the listed wait w, at J, and the late test does not hold there.
 pub record HasWait (H : ℕ → ℕ) (t : Timing) (deadline J w : ℕ) : Type 0 where
   pub least : IsLeastJ H t J
   pub wait : w ≡ waitFor H t J
-  pub inTime : lateAt H t deadline J ≡ false
+  pub inTime : lateAt t deadline J ≡ false
 
--- "The stream is late if there is no such J, or if listed wait + TMS is more than its deadline": whatever number is the
--- smallest J, if one is, its wait does not meet the deadline.
+-- "a stream is late if there is no J or if J × C − 1 + budget × TMS + TPR is more than its deadline": whatever number is the smallest
+-- J, if one is, the late test holds at it.
 abbrev pub IsLate : (ℕ → ℕ) → Timing → ℕ → Type 0
-IsLate H t deadline = (J : ℕ) → IsLeastJ H t J → lateAt H t deadline J ≡ true
-
--- The verdict at the smallest J.
-unfoldable pub verdictAt : (ℕ → ℕ) → Timing → ℕ → ℕ → Verdict
-verdictAt H t deadline J = cond (lateAt H t deadline J) Late (Listed (waitFor H t J) J)
+IsLate H t deadline = (J : ℕ) → IsLeastJ H t J → lateAt t deadline J ≡ true
 
 -- The search for J, to be run: J = from, from + 1 and so on, `tries` of them; late where none suffices.
-unfoldable pub search : (ℕ → ℕ) → Timing → ℕ → ℕ → ℕ → Verdict
-search H t deadline zero from = Late
-search H t deadline (suc tries) from =
+unfoldable pub search : (ℕ → ℕ) → Timing → ℕ → ℕ → Verdict
+search H t zero from = Late
+search H t (suc tries) from =
     elim (ltb (H (from * t .cycle - 1)) (from * t .budget)) [
-      | true ↦ verdictAt H t deadline from
-      | false ↦ search H t deadline tries (suc from)
+      | true ↦ Listed (waitFor H t from) from
+      | false ↦ search H t tries (suc from)
     ]
 
 -- The verdict on a stream by the interference of those above it, its node's timing and its deadline. Demand 2 says that it is the
 -- one above: `Listed w J` exactly for HasWait, `Late` exactly for IsLate.
 unfoldable pub verdict : (ℕ → ℕ) → Timing → ℕ → Verdict
-verdict H t deadline = search H t deadline (triesWorth t deadline) 1
+verdict H t deadline = search H t (triesWorth t deadline) 1
 
 -- The streams ranked above stream j of node k.
 abbrev pub higherStreams : List ℕ → ℕ → ℕ → List Stream

@@ -38,3 +38,12 @@ logUrgent = crowdedBy 1 2
 -- On sheet A: the first stream of node 1 releases twice, its period apart to the tick, and its second stream once.
 unfoldable pub logPeriodic : List ℕ
 logPeriodic = 0 ∷ 1 ∷ 0 ∷ 3 ∷ 0 ∷ 3 ∷ 1 ∷ 2 ∷ 40 ∷ 1 ∷ []
+
+-- Two nodes, TMS 5, TPR 1: node 1 with budget 1 and a stream 60 60, node 2 with budget 2 and two streams, the first with period 40 and a
+-- deadline as it varies, the second 60 60. A longest turn of node 2 takes 11 ticks, and C is 17.
+unfoldable pub sheetPair : ℕ → List ℕ
+sheetPair first = 2 ∷ 5 ∷ 1 ∷ 9 ∷ 1 ∷ 1 ∷ 11 ∷ 2 ∷ 2 ∷ 60 ∷ 60 ∷ 40 ∷ first ∷ 60 ∷ 60 ∷ []
+
+-- On it: all turns are full, and node 2's first stream releases just after a turn of its node has started.
+unfoldable pub logPair : List ℕ
+logPair = 0 ∷ 1 ∷ 0 ∷ 1 ∷ 0 ∷ 3 ∷ 0 ∷ 3 ∷ 0 ∷ 3 ∷ 7 ∷ 2 ∷ []

@@ -72,10 +72,17 @@ beganWithin words from next i = leb from (word words i) && ltb (word words i) ne
 abbrev pub messagesOf : List ℕ → List ℕ → List ℕ → ℕ → ℕ
 messagesOf s log words i = countBelow (beganWithin words (startOf s log i) (startOf s log (suc i))) (releases log)
 
--- "where in that log it and those ranked above it in its node keep their least periods".
+-- "in that log it and those ranked above it in its node keep their least periods".
 pub record PeriodsKept (s log : List ℕ) (k j : ℕ) : Type 0 where
   pub itself : KeepsPeriod s log k j
   pub rankedAbove : (i : ℕ) → OnSheet s k i → outranks (streamOf s k i) (streamOf s k j) ≡ true → KeepsPeriod s log k i
+
+-- The premises of demand 3 for stream j of node k: "any stream with a listed wait, where in that log it and those ranked above it in
+-- its node keep their least periods".
+pub record Premises (s log : List ℕ) (k j wait cycles : ℕ) : Type 0 where
+  pub onSheet : OnSheet s k j
+  pub listed : verdictOf s k j ≡ Listed wait cycles
+  pub kept : PeriodsKept s log k j
 
 -- "begins within that wait: the replay writes a begin tick for it, no earlier than its release and at most the listed wait
 -- after it".
@@ -84,17 +91,25 @@ pub record BeginsWithin (log words : List ℕ) (wait i : ℕ) : Type 0 where
   pub notEarlier : releaseTick log i ≤ word words i
   pub within : word words i ≤ releaseTick log i + wait
 
+-- Delivery: "Modules hand it up at the end of the turn's protocol slot". Release i is delivered by a tick: the turn that has its written
+-- begin tick, whatever its place there, is over by then; its slot ends where the next turn starts.
+pub record DeliveredBy (s log words : List ℕ) (i tick : ℕ) : Type 0 where
+  pub turn : ℕ
+  pub begins : beganWithin words (startOf s log turn) (startOf s log (suc turn)) i ≡ true
+  pub over : startOf s log (suc turn) ≤ tick
+
 -- Turns a and b are "two turns of a node, one the next after the other".
 pub record NextTurn (s log : List ℕ) (a b : ℕ) : Type 0 where
   pub ordered : a < b
   pub sameNode : nodeOf s log b ≡ nodeOf s log a
   pub noneBetween : (i : ℕ) → a < i → i < b → nodeOf s log i ≡ nodeOf s log a → ⊥
 
--- Release i is a "message of that stream whose release plus listed wait comes before the horizon".
-pub record DueBefore (s log : List ℕ) (horizon k j wait i : ℕ) : Type 0 where
+-- Release i is a "message of that stream whose release plus listed wait comes before the horizon", or plus its deadline: plus that
+-- number of ticks.
+pub record DueBefore (s log : List ℕ) (horizon k j ticks i : ℕ) : Type 0 where
   pub inLog : i < releases log
   pub ofStream : releaseStream log i ≡ runningNumber s k j
-  pub inTime : releaseTick log i + wait < horizon
+  pub inTime : releaseTick log i + ticks < horizon
 
 -- What demand 3 says of a replay that reported so many turns and the next tick, and wrote these words, one a release.
 pub record WholeReplay (s log : List ℕ) (horizon turns next : ℕ) (words : List ℕ) : Type 0 where
@@ -107,15 +122,19 @@ pub record WholeReplay (s log : List ℕ) (horizon turns next : ℕ) (words : Li
   pub oneCycleApart : (a b : ℕ) → NextTurn s log a b → b < turns → startOf s log b ≤ startOf s log a + cycle s
   -- "no turn has more messages than its node's budget"
   pub withinBudget : (i : ℕ) → i < turns → messagesOf s log words i ≤ budget s (nodeOf s log i)
-  -- "take any stream with a listed wait, where in that log it and those ranked above it in its node keep their least
-  -- periods. Whatever all others release ..., every message of that stream ... begins within that wait"
+  -- "Whatever all others release ..., every message of that stream ... begins within that wait"
   pub withinWait : (k j wait cycles : ℕ)
-      → OnSheet s k j
-      → verdictOf s k j ≡ Listed wait cycles
-      → PeriodsKept s log k j
+      → Premises s log k j wait cycles
       → (i : ℕ)
       → DueBefore s log horizon k j wait i
       → BeginsWithin log words wait i
+  -- "Under the premises of demand 3, every message whose release plus deadline comes before the horizon is delivered by its
+  -- deadline"
+  pub delivered : (k j wait cycles : ℕ)
+      → Premises s log k j wait cycles
+      → (i : ℕ)
+      → DueBefore s log horizon k j (deadline s k j) i
+      → DeliveredBy s log words i (releaseTick log i + deadline s k j)
 
 -- Demand 3, whole: for any valid sheet, and any log and horizon that the replay accepts, with the numbers that the replay
 -- answers and the words that it writes.

@@ -21,15 +21,15 @@ pub record InWindow (l : Line) (D : ℕ → ℕ) (J M i t : ℕ) : Type 0 where
   pub near : l .start t < lo + D (suc d)
   pub filled : i + d * l .budget < came l M lo (suc (l .start t))
 
--- M has begun before turn t: in an own turn that starts at or after its release, at a place that lies in a window of M.
+-- M has begun before turn t: an own turn took it, at a place that lies in a window of M, and its word is still the one it got there.
 pub record Began (l : Line) (D : ℕ → ℕ) (J M t : ℕ) : Type 0 where
   pub turn : ℕ
   pub place : ℕ
   pub earlier : turn < t
   pub own : l .ownTurn turn ≡ true
-  pub released : l .tick M ≤ l .start turn
   pub inBudget : place < l .budget
-  pub word : l .word t M ≡ l .start turn + place * l .messageTicks
+  pub took : Took l turn place M
+  pub still : l .word t M ≡ l .word (suc turn) M
   pub window : InWindow l D J M place turn
 
 module _ {l : Line} {D : ℕ → ℕ} {J M : ℕ} (s : IsServed l) (m : TurnsSuffice l D J M) where
@@ -62,9 +62,9 @@ module _ {l : Line} {D : ℕ → ℕ} {J M : ℕ} (s : IsServed l) (m : TurnsSuf
             place = g .place;
             earlier = omega (arith, g .earlier);
             own = g .own;
-            released = g .released;
             inBudget = g .inBudget;
-            word = kept ∙ g .word;
+            took = g .took;
+            still = kept ∙ g .still;
             window = g .window;
           }
 
@@ -79,9 +79,9 @@ module _ {l : Line} {D : ℕ → ℕ} {J M : ℕ} (s : IsServed l) (m : TurnsSuf
             place = p;
             earlier = omega arith;
             own = o;
-            released = k .waited .released;
             inBudget = omega (arith, v .inBudget);
-            word = k .word;
+            took = k;
+            still = refl;
             window = in-window p t (omega arith) w (place-queued s M t p v b k);
           }
 

@@ -7,7 +7,7 @@ use mathlib.Core.Bool.{true}
 use native.Mathlib.Omega.{arith}
 use native.Mathlib.Decide.{decLt}
 use native.Mathlib.Nat.{mul-le-mul-right}
-use Rattle.theory.proofs.Line.{Line, IsServed}
+use Rattle.theory.proofs.Line.{Line, Took, IsServed}
 use Rattle.theory.proofs.Window.{came, came-mono}
 use Rattle.theory.proofs.BusyWindow.{Near, TurnsSuffice}
 use Rattle.theory.proofs.QueueTheorem.{InWindow, began, still-waits}
@@ -27,11 +27,14 @@ pub record Ranked (l : Line) (D : ℕ → ℕ) (J H M : ℕ) : Type 0 where
 abbrev pub wait : Line → (ℕ → ℕ) → ℕ → ℕ → ℕ
 wait l D J H = D J - 1 + (H - pred J * l .budget) * l .messageTicks
 
--- M has begun before turn t: in an own turn that starts within D J ticks of its release, and within its wait bound.
+-- M has begun before turn t: an own turn that starts within D J ticks of its release took it, and it began within its wait bound.
 pub record BeganInTime (l : Line) (D : ℕ → ℕ) (J H M t : ℕ) : Type 0 where
   pub turn : ℕ
+  pub place : ℕ
   pub earlier : turn < t
   pub own : l .ownTurn turn ≡ true
+  pub took : Took l turn place M
+  pub still : l .word t M ≡ l .word (suc turn) M
   pub starts : l .start turn < l .tick M + D J
   pub notEarlier : l .tick M ≤ l .word t M
   pub within : l .word t M ≤ l .tick M + wait l D J H
@@ -99,13 +102,17 @@ module _ {l : Line} {D : ℕ → ℕ} {J H M : ℕ} (s : IsServed l) (r : Ranked
   pub ranked-began : (t : ℕ) → t ≤ l .turns → (l .word t M ≡ l .notBegun → ⊥) → BeganInTime l D J H M t
   ranked-began t h n =
       let g = began s suffice t h n in
+      let released : l .tick M ≤ l .start (g .turn) = g .took .waited .released in
       record {
         turn = g .turn;
+        place = g .place;
         earlier = g .earlier;
         own = g .own;
+        took = g .took;
+        still = g .still;
         starts = starts-within (g .place) (g .turn) (g .window);
-        notEarlier = omega (arith, g .word, g .released);
-        within = omega (arith, g .word, begins-within (g .place) (g .turn) (g .inBudget) (g .released) (g .window));
+        notEarlier = omega (arith, g .still, g .took .word, released);
+        within = omega (arith, g .still, g .took .word, begins-within (g .place) (g .turn) (g .inBudget) released (g .window));
       }
 
   -- If M is released at or before the start of turn t and has not begun, that start is within D J ticks of the release.

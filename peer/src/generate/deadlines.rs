@@ -1,10 +1,14 @@
 //! Work on the deadlines of sheets that are otherwise done. A deadline is part
 //! of the rank, so a change of one may move the waits of the whole node.
 
+use super::lower_of_two;
 use super::random::Random;
 use super::sheets::{bounded, NodePlan, Plan};
-use crate::admission::{last_try, least_cycles};
-use crate::sheet::Bus;
+use crate::admission::{delivery, last_try, least_cycles};
+use crate::sheet::{Bus, LAST_TICK};
+
+/// No deadline is brought to an edge further off.
+const MOST_CYCLES: u64 = 2_000;
 
 /// Makes two streams rivals: the one with the longer period takes the other's
 /// deadline, or one next to it, or all that the other has.
@@ -41,41 +45,70 @@ pub(super) fn meet_deadlines(random: &mut Random, plan: &mut Plan, share: u64) {
     }
 }
 
-/// Brings one deadline to the edge: its listed wait just in time or not.
-pub(super) fn sharpen_deadline(sheet: &mut [u32], random: &mut Random) {
-    let streams = Bus::read(sheet).map_or(0, |bus| bus.streams().len());
-    if streams == 0 {
-        return;
+/// Brings one deadline to the edge of the late test, just in time or one tick
+/// late, seldom with one tick to spare, and answers of which stream.
+pub(super) fn sharpen_deadline(sheet: &mut [u32], random: &mut Random) -> Option<usize> {
+    let bus = Bus::read(sheet).ok()?;
+    let stream = lower_of_two(random, &bus)?;
+    let old = sheet.to_vec();
+    if random.percent(60) {
+        tighten_node(sheet, &bus, bus.node_of(stream));
     }
-    let stream = random.below(streams as u64) as usize;
-    let past = random.below(3);
-    let place = sheet.len() - 2 * streams + 2 * stream + 1;
-    let old = sheet[place];
-    // A shorter deadline may move the stream up, which shortens its wait and
-    // so the deadline again, and a longer one may move it down. The rounds go
-    // one way and each passes another stream of the node, until one moves
-    // nothing: then the edge is that of the sheet as it stands.
-    for _ in 0..=16 {
-        let before = sheet[place];
-        match edge(sheet, stream, past) {
-            Some(deadline) => sheet[place] = deadline,
-            None => break,
-        }
-        if sheet[place] == before {
-            return;
-        }
+    let past = random.weighted(&[10, 45, 45]) as u64;
+    let sharp = settle(sheet, stream, past);
+    if sharp.is_none() {
+        sheet.copy_from_slice(&old);
     }
-    sheet[place] = old;
+    sharp
 }
 
-/// The deadline one tick after, at or one tick before the delivery at the
-/// listed wait, for `past` 0, 1 or 2, as the stream is ranked now.
-fn edge(sheet: &[u32], stream: usize, past: u64) -> Option<u32> {
-    let bus = Bus::read(sheet).ok()?;
-    let found = least_cycles(&bus, stream, 2_000)?;
-    let deadline = (found.wait + bus.message_ticks + 1).checked_sub(past)?;
-    let period = u64::from(bus.streams()[stream].period);
-    (1..=period).contains(&deadline).then_some(deadline as u32)
+/// Index of the period of a stream in a valid sheet.
+fn place(sheet: &[u32], bus: &Bus, stream: usize) -> usize {
+    sheet.len() - 2 * bus.streams().len() + 2 * stream
+}
+
+/// Shortens the deadlines of a node to little more than the deliveries, with
+/// the rank as it is. One of them can then come to the edge where it stands,
+/// where it would else pass those above it and be served in the first cycle.
+fn tighten_node(sheet: &mut [u32], bus: &Bus, node: usize) {
+    let node = &bus.nodes()[node];
+    let mut order: Vec<usize> = (node.first..node.first + node.count).collect();
+    order.sort_by_key(|&stream| bus.priority(stream));
+    for (more, stream) in (0..).zip(order) {
+        if let Some(found) = least_cycles(bus, stream, MOST_CYCLES) {
+            let deadline = bounded(delivery(bus, stream, found.cycles) + more);
+            let place = place(sheet, bus, stream) + 1;
+            sheet[place] = sheet[place].min(deadline);
+        }
+    }
+}
+
+/// Sets the deadline of a stream to its edge. A shorter deadline may move the
+/// stream up, which takes fewer cycles and so shortens the deadline again, and
+/// a longer one may move it down. The rounds go one way and each passes another
+/// stream of the node, until one moves nothing: then the edge is that of the
+/// sheet as it stands.
+fn settle(sheet: &mut [u32], stream: usize, past: u64) -> Option<usize> {
+    for _ in 0..=16 {
+        let bus = Bus::read(sheet).ok()?;
+        let deadline = edge(&bus, stream, past)?;
+        let place = place(sheet, &bus, stream);
+        if deadline == sheet[place + 1] {
+            return Some(stream);
+        }
+        // A period that is too short for it grows along.
+        sheet[place] = sheet[place].max(deadline);
+        sheet[place + 1] = deadline;
+    }
+    None
+}
+
+/// The deadline one tick after, at or one tick before the delivery, for `past`
+/// 0, 1 or 2, as the stream is ranked now.
+fn edge(bus: &Bus, stream: usize, past: u64) -> Option<u32> {
+    let found = least_cycles(bus, stream, MOST_CYCLES)?;
+    let deadline = delivery(bus, stream, found.cycles) + 1 - past;
+    (deadline <= u64::from(LAST_TICK)).then_some(deadline as u32)
 }
 
 /// How many J all streams of a sheet together try, up to about `most`.

@@ -1,6 +1,8 @@
 //! Logs of many kinds.
 
+use super::lower_of_two;
 use super::random::Random;
+use crate::admission::least_cycles;
 use crate::log::MOST_RELEASES;
 use crate::sheet::{Bus, LAST_TICK};
 
@@ -14,6 +16,8 @@ pub(super) struct Traffic<'a> {
     pub streams: u32,
     /// The releases come before this tick, by and large.
     pub span: u64,
+    /// The stream that has a deadline at the edge.
+    pub sharp: Option<usize>,
 }
 
 impl Traffic<'_> {
@@ -155,6 +159,39 @@ fn before_the_end(random: &mut Random, traffic: &Traffic) -> Vec<Release> {
     burst(random, traffic, tick as u32, 60)
 }
 
+/// The morning on which a stream waits longest, if a log has room for it: the
+/// stream releases just after a turn of its node has started, and so do those
+/// above it, as often as they may. All others have so much waiting from the
+/// start that their turns are full, and so is the one that takes the message.
+fn bad_morning(random: &mut Random, traffic: &Traffic) -> Option<Vec<Release>> {
+    let bus = traffic.bus?;
+    let any = lower_of_two(random, bus)?;
+    let stream = traffic.sharp.unwrap_or(any);
+    let cycles = least_cycles(bus, stream, 500)?.cycles;
+    let own = bus.node_of(stream);
+    let start: u64 = (0..own).map(|node| bus.longest_turn(node)).sum();
+    let last = (start + cycles * bus.cycle()).min(u64::from(LAST_TICK));
+    let most = MOST_RELEASES;
+    let mut releases = Vec::new();
+    for (index, node) in bus.nodes().iter().enumerate() {
+        let streams = node.first..node.first + node.count;
+        let below = |&other: &usize| bus.priority(other) > bus.priority(stream);
+        let (crowd, regular): (Vec<usize>, Vec<usize>) =
+            streams.partition(|other| index != own || below(other));
+        if !crowd.is_empty() {
+            let one = random.pick(&crowd) as u32 + 1;
+            let full = (cycles as usize + 1) * node.budget;
+            releases.extend((0..full.min(most)).map(|_| (0, one)));
+        }
+        for other in regular {
+            let period = bus.streams()[other].period as usize;
+            let ticks = (start + 1..=last).step_by(period).take(most);
+            releases.extend(ticks.map(|tick| (tick as u32, other as u32 + 1)));
+        }
+    }
+    (releases.len() <= most).then_some(releases)
+}
+
 fn releases(random: &mut Random, traffic: &Traffic) -> Vec<Release> {
     let most = MOST_RELEASES as u64;
     // Where the end is the last tick, begins past it are what is wanted.
@@ -162,7 +199,11 @@ fn releases(random: &mut Random, traffic: &Traffic) -> Vec<Release> {
         true => 3_000,
         false => 40,
     };
-    match random.weighted(&[60, 150, 150, 170, 170, 140, 8, 8, 4, end, 180]) {
+    let bad = match traffic.sharp {
+        Some(_) => 1_000,
+        None => 40,
+    };
+    match random.weighted(&[60, 150, 150, 170, 170, 140, 8, 8, 4, end, 180, bad]) {
         0 => Vec::new(),
         1 => {
             let count = random.between(1, 40);
@@ -176,6 +217,7 @@ fn releases(random: &mut Random, traffic: &Traffic) -> Vec<Release> {
         7 => scattered(random, traffic, most + 1),
         9 => before_the_end(random, traffic),
         10 => rivals(random, traffic),
+        11 => bad_morning(random, traffic).unwrap_or_else(|| bursts(random, traffic)),
         _ => vec![(LAST_TICK, traffic.any_stream(random)); 3],
     }
 }

@@ -4,6 +4,7 @@
 mod deadlines;
 mod faults;
 mod logs;
+mod long;
 mod named;
 mod named_tables;
 mod random;
@@ -16,6 +17,7 @@ use deadlines::limit_tries;
 use faults::{damage_log, damage_sheet};
 use logs::{ordered_log, Traffic};
 use random::Random;
+use sheets::{valid_sheet, Valid};
 
 pub(crate) use deadlines::total_tries;
 pub use named::named;
@@ -54,16 +56,20 @@ pub struct Case {
 /// The same for the same seed and index, whatever other cases are made.
 pub fn case(seed: u64, index: u64) -> Case {
     let random = &mut Random::new(seed, index);
-    let (mut sheet, tries) = sheets::valid_sheet(random);
+    let Valid {
+        mut sheet,
+        tries,
+        sharp,
+    } = valid_sheet(random);
     damage_sheet(random, &mut sheet);
     limit_tries(&mut sheet, tries);
     let bus = Bus::read(&sheet).ok();
-    let traffic = traffic(random, bus.as_ref());
+    let traffic = traffic(random, bus.as_ref(), sharp);
     let mut log = ordered_log(random, &traffic);
     damage_log(random, &mut log, traffic.streams);
     let releases = log.len().div_ceil(2);
     let horizon = horizon(random, &traffic);
-    let (node, stream) = question(random, bus.as_ref());
+    let (node, stream) = question(random, &traffic);
     let record = record(random, &traffic, &log);
     let room = room(random, traffic.streams as usize, releases);
     let step_room = step_room(random, releases);
@@ -85,7 +91,7 @@ fn longest_horizon(bus: Option<&Bus>, turns: u64) -> u64 {
     (slot * turns).min(u64::from(LAST_TICK))
 }
 
-fn traffic<'a>(random: &mut Random, bus: Option<&'a Bus>) -> Traffic<'a> {
+fn traffic<'a>(random: &mut Random, bus: Option<&'a Bus>, sharp: Option<usize>) -> Traffic<'a> {
     let turns = [100, 1_000, 5_000, 30_000, USUAL_TURNS, MOST_TURNS];
     // With slots long enough, the most turns come to the last tick; with long
     // messages too, the last of them goes on well past it.
@@ -105,7 +111,28 @@ fn traffic<'a>(random: &mut Random, bus: Option<&'a Bus>) -> Traffic<'a> {
         Some(bus) => bus.streams().len() as u32,
         None => random.between(1, 10) as u32,
     };
-    Traffic { bus, streams, span }
+    // What was damaged may have lost the stream.
+    let sharp = sharp.filter(|&stream| stream < streams as usize);
+    let span = match (bus, sharp) {
+        (Some(bus), Some(stream)) => span.max(past_deadline(bus, stream)),
+        _ => span,
+    };
+    Traffic {
+        bus,
+        streams,
+        span,
+        sharp,
+    }
+}
+
+/// Past the deadline of a message that is released in the first cycle; 0 if
+/// that takes too many turns.
+fn past_deadline(bus: &Bus, stream: usize) -> u64 {
+    let due = bus.cycle() + u64::from(bus.streams()[stream].deadline) + 1;
+    match due <= longest_horizon(Some(bus), USUAL_TURNS) {
+        true => due,
+        false => 0,
+    }
 }
 
 fn horizon(random: &mut Random, traffic: &Traffic) -> u32 {
@@ -123,19 +150,29 @@ fn horizon(random: &mut Random, traffic: &Traffic) -> u32 {
     ticks as u32
 }
 
-/// Mostly a stream that there is, and of two the one of lower priority, which
-/// is more likely to wait for more than one cycle.
-fn question(random: &mut Random, bus: Option<&Bus>) -> (u32, u32) {
+/// Of two streams of a node the one of lower priority, which is more likely to
+/// wait for more than one cycle; none for a sheet without streams.
+fn lower_of_two(random: &mut Random, bus: &Bus) -> Option<usize> {
+    let streams = bus.streams().len() as u64;
+    let one = (streams > 0).then(|| random.below(streams) as usize)?;
+    let node = &bus.nodes()[bus.node_of(one)];
+    let other = node.first + random.below(node.count as u64) as usize;
+    Some(std::cmp::max_by_key(one, other, |&s| bus.priority(s)))
+}
+
+/// Mostly a stream that there is, and often the one with a deadline at the edge.
+fn question(random: &mut Random, traffic: &Traffic) -> (u32, u32) {
     let odd = [0, 1, 2, 16, 17, 18, 4_096, u32::MAX - 1, u32::MAX];
-    let streams = bus.map_or(&[][..], |bus| bus.streams());
-    let Some(bus) = bus.filter(|_| !streams.is_empty()) else {
+    let asked = traffic.bus.and_then(|bus| {
+        let stream = lower_of_two(random, bus)?;
+        let sharp = traffic.sharp.filter(|_| random.percent(60));
+        Some((bus, sharp.unwrap_or(stream)))
+    });
+    let Some((bus, stream)) = asked else {
         return (random.pick(&odd), random.pick(&odd));
     };
-    let one = random.below(streams.len() as u64) as usize;
-    let node = &bus.nodes()[bus.node_of(one)];
-    let (first, count) = (node.first as u64, node.count as u64);
-    let other = (first + random.below(count)) as usize;
-    let (node, stream) = bus.place(std::cmp::max_by_key(one, other, |&s| bus.priority(s)));
+    let count = bus.nodes()[bus.node_of(stream)].count;
+    let (node, stream) = bus.place(stream);
     match random.weighted(&[88, 3, 3, 3, 3]) {
         0 => (node, stream),
         1 => (random.pick(&odd), stream),

@@ -1,5 +1,5 @@
-//! Named cases: the far ends of every range, and a few that go beyond the
-//! limits which the generated ones keep to.
+//! Named cases: the far ends of every range, both sides of the late test, and a
+//! few that go beyond the limits which the generated ones keep to.
 
 use super::sheets::{NodePlan, Plan};
 use super::Case;
@@ -146,10 +146,10 @@ fn late_begins() -> Vec<Named> {
     ]
 }
 
-/// A stream in time after 259 cycles of 2,570,000 ticks. The one above has the
+/// A stream in time after 130 cycles of 2,570,000 ticks. The one above has the
 /// least period with which it is in time itself.
 fn long_wait() -> Vec<Named> {
-    let least = 2_570_000 + 10_000 - 1;
+    let least = 2_570_000 - 1 + 20_000;
     let mut nodes = vec![NodePlan {
         budget: 1,
         streams: vec![(LAST_TICK, LAST_TICK), (least, least)],
@@ -300,6 +300,60 @@ fn ranks() -> Vec<Named> {
     ]
 }
 
+/// Streams that are delivered just at their deadline, and one tick after it.
+/// Some of the logs have such a message.
+fn deliveries() -> Vec<Named> {
+    let p2 = |deadline: u32| {
+        let mut sheet = SMALL.to_vec();
+        (sheet[10], sheet[12]) = (deadline, deadline);
+        asking(plain(sheet, vec![0, 1, 0, 2, 1, 3], 60), 1, 2)
+    };
+    let p7 = |first: u32| {
+        let sheet = one_node(5, 1, 1, &[(first, first), (100, 100)]);
+        plain(sheet, vec![0, 2, 1, 1], 40)
+    };
+    let first_of_two = |deadline: u32| {
+        let nodes = [(2, vec![(100, deadline), (100, 100)]), (1, vec![(30, 30)])];
+        let nodes = nodes.map(|(budget, streams)| NodePlan { budget, streams });
+        let plan = Plan {
+            message: 5,
+            slot: 1,
+            nodes: nodes.into(),
+        };
+        plain(plan.words(), vec![0, 2, 0, 2, 0, 2, 0, 3, 1, 1], 40)
+    };
+    let longest = |deadline: u32| {
+        let sheet = sixteen(10_000, 10_000, 16, &[(LAST_TICK, deadline); 16]);
+        // Two full turns of each node's last stream, then one of the first.
+        let full = releases(512, |release| [0, release % 16 * 16 + 16]);
+        let log = [full, vec![1, 1]].concat();
+        asking(plain(sheet, log, 3_000_000), 16, 16)
+    };
+    // 31,623 cycles of 31,622 ticks; the other leaves no turn free before.
+    let last_cycle = |deadline: u32| {
+        let streams = vec![(LAST_TICK, deadline), (31_623, 1)];
+        let nodes = [streams, vec![]].map(|streams| NodePlan { budget: 1, streams });
+        let plan = Plan {
+            message: 10_000,
+            slot: 5_811,
+            nodes: nodes.into(),
+        };
+        plain(plan.words(), vec![0, 1, 0, 2], 100_000)
+    };
+    vec![
+        ("P2 with two deadlines of 39, just in time", p2(39)),
+        ("P2 with two deadlines of 38, late by one", p2(38)),
+        ("P7 with 11 11 first, just in time", p7(11)),
+        ("P7, late by one", p7(10)),
+        ("first of a turn of two, just in time", first_of_two(27)),
+        ("first of a turn of two, late by one", first_of_two(26)),
+        ("the longest turns, just in time", longest(2_889_999)),
+        ("the longest turns, late by one", longest(2_889_998)),
+        ("near the last tick, just in time", last_cycle(999_998_316)),
+        ("near the last tick, late by one", last_cycle(999_998_315)),
+    ]
+}
+
 pub fn named() -> Vec<Named> {
     [
         many_turns(),
@@ -312,6 +366,7 @@ pub fn named() -> Vec<Named> {
         refused(),
         out_of_range(),
         ranks(),
+        deliveries(),
     ]
     .concat()
 }

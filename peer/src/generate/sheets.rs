@@ -1,6 +1,7 @@
 //! Valid sheets of many kinds.
 
 use super::deadlines::{meet_deadlines, sharpen_deadline};
+use super::long::{fill_long_search, fill_long_wait};
 use super::random::Random;
 use super::MOST_TRIES;
 use crate::sheet::LAST_TICK;
@@ -92,14 +93,15 @@ fn shape(random: &mut Random) -> Plan {
 }
 
 /// If every stream of the node has at least this period, each releases only
-/// once while the lowest of them waits, and that wait ends within the period.
+/// once while the lowest of them waits, and that one is delivered within the
+/// period: its J is no more than `cycles`, and a turn is no longer than a cycle.
 fn roomy_period(node: &NodePlan, cycle: u64) -> u64 {
     let cycles = node.streams.len() as u64 / u64::from(node.budget) + 1;
     (cycles + 1) * cycle
 }
 
 /// Long periods and deadlines that are met.
-fn fill_roomy(plan: &mut Plan, random: &mut Random) {
+pub(super) fn fill_roomy(plan: &mut Plan, random: &mut Random) {
     let cycle = plan.cycle();
     let any_deadline = random.percent(15);
     for node in &mut plan.nodes {
@@ -148,7 +150,7 @@ fn shorter(random: &mut Random, period: u32) -> u32 {
 }
 
 /// Demand about as high as the budgets, so that waits span several cycles
-/// and every second sheet or so has a late stream.
+/// and one sheet in ten or so has a late stream.
 fn fill_tight(plan: &mut Plan, random: &mut Random) {
     let cycle = plan.cycle();
     let share = random.between(60, 400);
@@ -186,73 +188,6 @@ fn fill_edges(plan: &mut Plan, random: &mut Random) {
         }
     }
     meet_deadlines(random, plan, 35);
-}
-
-/// For a node of budget 1: a stream that leaves a turn free only once in about
-/// cycle / gap cycles, since its period is a cycle and `gap`, and `lower` ones
-/// that have to wait for such a turn each. All are in time, the first because
-/// the gap is as long as a message or longer.
-fn rare_gaps(random: &mut Random, plan: &Plan, gap: u64, lower: u64) -> Vec<(u32, u32)> {
-    let cycle = plan.cycle();
-    let (soonest, period) = (cycle - 1 + u64::from(plan.message), cycle + gap);
-    let deadline = random.between(soonest, period);
-    let deadline = random.pick(&[deadline, period]);
-    let mut streams = vec![(bounded(period), bounded(deadline))];
-    let longest = cycle * (lower * cycle / gap + 4);
-    let usual = random.between(longest, 3 * longest);
-    for _ in 0..lower {
-        let other = random.between(longest, 3 * longest);
-        let deadline = random.pick(&[usual, other]);
-        let period = random.between(deadline, 3 * longest);
-        let period = random.pick(&[deadline, period]);
-        streams.push((bounded(period), bounded(deadline)));
-    }
-    streams.rotate_left(random.below(lower + 1) as usize);
-    streams
-}
-
-/// Streams that wait for many cycles, up to some thousand.
-fn fill_long_search(plan: &mut Plan, random: &mut Random) {
-    plan.nodes.truncate(2);
-    fill_roomy(plan, random);
-    let node = plan.nodes.len() - 1;
-    plan.nodes[node].budget = 1;
-    plan.message = plan.message.min(3);
-    plan.slot = random.between(1, 3_000) as u32;
-    let least = u64::from(plan.message);
-    let widest = least.max(plan.cycle() / random.pick(&[4, 20, 200]));
-    let gap = random.between(least, widest);
-    let lower = random.between(1, 2);
-    plan.nodes[node].streams = rare_gaps(random, plan, gap, lower);
-}
-
-/// A stream that waits for about 10^8 to 10^9 ticks and is in time. As in a
-/// long search, but over long cycles: of many slots and short messages, or of
-/// the full turns of many other nodes.
-fn fill_long_wait(plan: &mut Plan, random: &mut Random) {
-    plan.slot = random.between(5_000, 10_000) as u32;
-    plan.message = random.between(1, 3) as u32;
-    if random.percent(30) {
-        plan.message = random.between(5_000, 10_000) as u32;
-        plan.nodes.resize_with(16, || NodePlan {
-            budget: 16,
-            streams: vec![],
-        });
-        plan.nodes.iter_mut().for_each(|node| node.budget = 16);
-    }
-    if random.percent(50) {
-        let nodes = plan.nodes.iter_mut();
-        nodes.for_each(|node| node.streams.truncate(1));
-    }
-    let node = random.below(plan.nodes.len() as u64) as usize;
-    plan.nodes[node].budget = 1;
-    fill_roomy(plan, random);
-    let cycle = plan.cycle();
-    let lower = random.pick(&[1, 1, 2]);
-    let wait = random.between(120_000_000, 900_000_000) / lower;
-    // A gap of a message keeps the stream above in time itself.
-    let gap = u64::from(plan.message).max(cycle * cycle / wait);
-    plan.nodes[node].streams = rare_gaps(random, plan, gap, lower);
 }
 
 /// Long messages and slots: the last tick is not many turns away.
@@ -300,8 +235,16 @@ fn fill_overload(plan: &mut Plan, random: &mut Random) {
     plan.nodes = vec![NodePlan { budget, streams }];
 }
 
-/// A valid sheet and how many tries of J are fair for it.
-pub(super) fn valid_sheet(random: &mut Random) -> (Vec<u32>, u64) {
+/// A valid sheet.
+pub(super) struct Valid {
+    pub sheet: Vec<u32>,
+    /// How many tries of J are fair for it.
+    pub tries: u64,
+    /// The stream that has a deadline at the edge.
+    pub sharp: Option<usize>,
+}
+
+pub(super) fn valid_sheet(random: &mut Random) -> Valid {
     let mut plan = shape(random);
     // Few of the others are worth a long search for a stream that is late.
     let mut tries = [1_000, 10_000, MOST_TRIES][random.weighted(&[5, 2, 1])];
@@ -326,8 +269,13 @@ pub(super) fn valid_sheet(random: &mut Random) -> (Vec<u32>, u64) {
         }
     }
     let mut sheet = plan.words();
-    if random.percent(20) {
-        sharpen_deadline(&mut sheet, random);
+    let sharp = match random.percent(25) {
+        true => sharpen_deadline(&mut sheet, random),
+        false => None,
+    };
+    Valid {
+        sheet,
+        tries,
+        sharp,
     }
-    (sheet, tries)
 }

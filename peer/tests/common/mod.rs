@@ -3,7 +3,7 @@
 
 use std::fmt::Debug;
 
-use peer::generate::{named_tables, TablesCase};
+use peer::generate::{case, named_tables, Case, TablesCase};
 use peer::stats::Figures;
 use peer::{admit, one_stream, replay, write_sheet, Answer, Tables};
 
@@ -13,6 +13,11 @@ pub const NOT_BEGUN: u32 = peer::NOT_BEGUN;
 pub const SHEET_A: [u32; 15] = [2, 5, 1, 9, 2, 1, 13, 1, 2, 40, 40, 60, 60, 30, 30];
 /// The sheet of P7.
 pub const SHEET_P7: [u32; 10] = [1, 5, 1, 6, 2, 1, 10, 10, 100, 100];
+
+/// P7 with 11 11 first: a cycle of 6 ticks, and the first just in time.
+pub fn p7_just_in_time() -> Vec<u32> {
+    with(&SHEET_P7, &[(6, 11), (7, 11)])
+}
 
 /// A word that no entry writes in the tests that use it.
 pub const OLD: u32 = 777_777_777;
@@ -65,6 +70,48 @@ pub fn bodies(sheet: &[u32]) -> Vec<Vec<(u32, u32)>> {
     .collect()
 }
 
+/// A valid sheet, taken apart in the plainest way.
+pub struct Plain {
+    pub message: u64,
+    pub slot: u64,
+    pub cycle: u64,
+    /// Budget and streams of each node; period and deadline of a stream.
+    pub nodes: Vec<(u64, Vec<(u64, u64)>)>,
+}
+
+pub fn plain(sheet: &[u32]) -> Plain {
+    let word = |place: usize| u64::from(sheet[place]);
+    let mut nodes = Vec::new();
+    for node in 0..sheet[0] as usize {
+        let row = 3 + 3 * node;
+        let body = sheet[row] as usize;
+        let count = sheet[row + 1] as usize;
+        let pair = |stream: usize| (word(body + 2 * stream), word(body + 2 * stream + 1));
+        nodes.push((word(row + 2), (0..count).map(pair).collect::<Vec<_>>()));
+    }
+    let budgets: u64 = nodes.iter().map(|node| node.0).sum();
+    Plain {
+        message: word(1),
+        slot: word(2),
+        cycle: budgets * word(1) + word(0) * word(2),
+        nodes,
+    }
+}
+
+/// The rank by the words of the request: shorter deadline first, then shorter
+/// period, then lower stream number. Numbers are those in the node, from 0.
+pub fn ranks_above(streams: &[(u64, u64)], one: usize, other: usize) -> bool {
+    let (period, deadline) = streams[one];
+    let (other_period, other_deadline) = streams[other];
+    if deadline != other_deadline {
+        return deadline < other_deadline;
+    }
+    if period != other_period {
+        return period < other_period;
+    }
+    one < other
+}
+
 /// Admits into a room with two words to spare; those two must stay.
 pub fn admitted(sheet: &[u32], streams: usize) -> (Answer, Vec<u32>) {
     let mut room = vec![OLD; streams + 2];
@@ -105,6 +152,30 @@ pub fn listed_wait(sheet: &[u32], node: u32, stream: u32) -> u32 {
 
 pub fn bytes(words: &[u32]) -> Vec<u8> {
     words.iter().flat_map(|word| word.to_le_bytes()).collect()
+}
+
+/// The admission, good or broken.
+pub type Admit = fn(&[u32], &mut [u32]) -> Answer;
+
+/// The answer of an admission, and what it leaves of an exact room.
+pub fn waits(entry: Admit, sheet: &[u32], streams: usize) -> (Answer, Vec<u32>) {
+    let mut room = vec![OLD; streams];
+    (entry(sheet, &mut room), room)
+}
+
+/// Whether a broken admission shows on a case.
+pub fn admits_differ(bad: Admit, case: &Case) -> bool {
+    let given = |entry: Admit| {
+        let mut room = case.room.clone();
+        (entry(&case.sheet, &mut room), room)
+    };
+    given(admit) != given(bad)
+}
+
+/// Of 2,000 generated cases.
+pub fn count(differ: impl Fn(&Case) -> bool) -> usize {
+    let cases = (0..2_000).map(|index| case(1, index));
+    cases.filter(|case| differ(case)).count()
 }
 
 /// The tables of sheet A.

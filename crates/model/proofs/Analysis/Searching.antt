@@ -4,11 +4,11 @@ use Prim.Native.Nat.{ℕ, suc, pred, _+_, _-_, _*_, _≤_, _<_, suc-le-suc}
 use native.Mathlib.Numerals.{add-one}
 use native.Mathlib.Nat.{le-trans, mul-le-mul-right, sub-eq-zero-of-le}
 use native.Mathlib.Omega.{arith}
-use mathlib.Core.Path.{_≡_, refl, sym, _∙_}
+use mathlib.Core.Path.{_≡_, refl, sym, ap, _∙_}
 use Rattle.model.specs.declared.Timing.{Timing}
 use Rattle.model.specs.declared.Verdict.{Verdict}
-use Rattle.model.specs.declared.Verdict.the-variants.{Late}
-use Rattle.model.specs.Analysis.{Suffices, verdictAt, search}
+use Rattle.model.specs.declared.Verdict.the-variants.{Late, Listed}
+use Rattle.model.specs.Analysis.{Suffices, waitFor, search}
 use Rattle.model.proofs.Analysis.Wait.{Grows}
 use Rattle.model.proofs.Analysis.Search.{search-found, search-on, search-end}
 use Rattle.model.proofs.Sheet.Refusals.{one-more}
@@ -23,25 +23,25 @@ filled-on t J grows filled =
     let more : J * t .cycle ≤ (J + 1) * t .cycle = mul-le-mul-right (t .cycle) (omega arith) in
     rw last (le-trans filled (grows (J * t .cycle - 1) ((J + 1) * t .cycle - 1) (omega arith)))
 
-module _ (H : ℕ → ℕ) (t : Timing) (deadline : ℕ) where
+module _ (H : ℕ → ℕ) (t : Timing) where
   -- The search from J on, up to the last number of cycles worth a try.
   abbrev pub searching : ℕ → ℕ → Verdict
-  searching tries J = search H t deadline (suc tries - J) J
+  searching tries J = search H t (suc tries - J) J
 
   -- From 1 on it is the whole search.
-  pub searching-all : {tries all : ℕ} → tries ≡ all → searching tries 1 ≡ search H t deadline all 1
+  pub searching-all : {tries all : ℕ} → tries ≡ all → searching tries 1 ≡ search H t all 1
   searching-all {tries} {all} same = let e : suc tries - 1 ≡ all = omega arith in rw e refl
 
-  -- J suffices: the verdict at J is the whole.
-  pub searching-found : {tries J : ℕ} {v whole : Verdict}
+  -- J suffices: its wait and J are the whole.
+  pub searching-found : {tries J w : ℕ} {whole : Verdict}
       → J ≤ tries
       → Suffices H t J
-      → v ≡ verdictAt H t deadline J
+      → w ≡ waitFor H t J
       → searching tries J ≡ whole
-      → v ≡ whole
-  searching-found {tries} {J} h enough found same =
-      found
-      ∙ sym (search-found H t deadline (suc tries - suc J) J enough)
+      → Listed w J ≡ whole
+  searching-found {tries} {J} h enough wait same =
+      ap (λ w. Listed w J) wait
+      ∙ sym (search-found H t (suc tries - suc J) J enough)
       ∙ (rw (one-more J (suc tries) (suc-le-suc h)) at same)
 
   -- The higher streams fill J turns: the search from the next on is the whole still.
@@ -52,10 +52,10 @@ module _ (H : ℕ → ℕ) (t : Timing) (deadline : ℕ) where
       → searching tries (J + 1) ≡ whole
   searching-on {tries} {J} h filled same =
       rw (add-one J)
-      (sym (search-on H t deadline (suc tries - suc J) J (λ enough. omega arith))
+      (sym (search-on H t (suc tries - suc J) J (λ enough. omega arith))
       ∙ (rw (one-more J (suc tries) (suc-le-suc h)) at same))
 
   -- No number is left: the verdict is late.
   pub searching-end : {tries J : ℕ} {whole : Verdict} → tries < J → searching tries J ≡ whole → Late ≡ whole
   searching-end {tries} {J} past same =
-      sym (search-end H t deadline J) ∙ (rw (sub-eq-zero-of-le past) at same)
+      sym (search-end H t J) ∙ (rw (sub-eq-zero-of-le past) at same)

@@ -1,14 +1,15 @@
 -- "The listed wait" as a fact about whole numbers: the place in the turn is no negative number, and what
--- the late test says of J. The laws about that test stand here alone: a J that is not worth a try is late, and where one is in time
--- its cycles are within the deadline. Assumes nothing.
+-- the late test says of J. The laws about that test stand here alone: it passes exactly the J that are worth a try, and where it
+-- passes one, the latest delivery and the J cycles are within the deadline. Assumes nothing.
 use Prim.Native.Nat.{ℕ, zero, suc, pred, _+_, _-_, _*_, _≤_, _<_}
 use native.Mathlib.Nat.{pred-le, one-le-mul, mul-le-mul-right, le-div-iff-mul-le}
 use native.Mathlib.Omega.{arith}
 use mathlib.Core.Path.{_≡_}
-use mathlib.Core.Bool.{true, false}
-use borrow.Author.Tests.{ltb-false, lt-ltb, le-ltb}
+use mathlib.Core.Logic.{_↔_}
+use mathlib.Core.Bool.{false}
+use borrow.Author.Tests.{ltb-false, le-ltb}
 use Rattle.model.specs.declared.Timing.{Timing}
-use Rattle.model.specs.Analysis.{Suffices, IsLeastJ, waitFor, deliveredAfter, lateAt, triesWorth}
+use Rattle.model.specs.Analysis.{Suffices, IsLeastJ, longestTurn, deliveredAfter, lateAt, triesWorth}
 
 -- H grows with its window.
 abbrev pub Grows : (ℕ → ℕ) → Type 0
@@ -27,28 +28,25 @@ module _ {H : ℕ → ℕ} {t : Timing} where
       let fewer : pred J * t .cycle ≤ J * t .cycle = mul-le-mul-right (t .cycle) (pred-le J) in
       omega (arith, grows (pred J * t .cycle - 1) (J * t .cycle - 1) (omega arith))
 
-module _ (H : ℕ → ℕ) (t : Timing) (deadline J : ℕ) where
-  -- A J in time is worth a try,
-  pub in-time-worth : 0 < t .cycle → 1 ≤ J → lateAt H t deadline J ≡ false → J ≤ triesWorth t deadline
-  unfolding lateAt waitFor
-  in-time-worth positive one early =
+module _ (t : Timing) (deadline J : ℕ) where
+  -- A J that the late test passes is delivered within the deadline,
+  pub in-time-delivered : lateAt t deadline J ≡ false → deliveredAfter t J ≤ deadline
+  unfolding lateAt
+  in-time-delivered early = ltb-false deadline (deliveredAfter t J) early
+
+  -- and so are its cycles, where a turn takes some time.
+  pub in-time-cycles : 1 ≤ longestTurn t → lateAt t deadline J ≡ false → J * t .cycle ≤ deadline
+  in-time-cycles some early = omega (arith, in-time-delivered early)
+
+  -- The J from 1 up that the late test passes are those worth a try.
+  pub in-time-worth : 0 < t .cycle → 1 ≤ J → (lateAt t deadline J ≡ false) ↔ (J ≤ triesWorth t deadline)
+  unfolding lateAt
+  in-time-worth positive one =
       let some : 1 ≤ J * t .cycle = one-le-mul one positive in
-      le-div-iff-mul-le positive .1 (omega (arith, ltb-false deadline (deliveredAfter H t J) early))
-
-  -- and its cycles are within the deadline.
-  pub in-time-cycles : 1 ≤ t .message → lateAt H t deadline J ≡ false → J * t .cycle ≤ deadline
-  unfolding lateAt waitFor
-  in-time-cycles message early = omega (arith, ltb-false deadline (deliveredAfter H t J) early)
-
-  -- The late test, for a program that holds the wait: it holds,
-  pub late-by : {w : ℕ} → w ≡ waitFor H t J → deadline < w + t .message → lateAt H t deadline J ≡ true
-  unfolding lateAt
-  late-by same late = lt-ltb _ _ (rw same at late)
-
-  -- or it does not.
-  pub in-time-by : {w : ℕ} → w ≡ waitFor H t J → w + t .message ≤ deadline → lateAt H t deadline J ≡ false
-  unfolding lateAt
-  in-time-by same early = le-ltb _ _ (rw same at early)
+      let worth = le-div-iff-mul-le positive in (
+        λ early. worth .1 (omega (arith, in-time-delivered early)),
+        λ few. le-ltb deadline (deliveredAfter t J) (omega (arith, worth .0 few)),
+      )
 
 -- Cycles that are worth a try are within the deadline.
 pub tries-cycles : (t : Timing) (deadline J : ℕ)

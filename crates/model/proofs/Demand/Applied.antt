@@ -13,10 +13,10 @@ use Rattle.model.specs.declared.Answer.{Answer}
 use Rattle.model.specs.Limits.{notBegun}
 use Rattle.model.specs.Refusal.{refuseIf, _orElse_, firstOf, outside}
 use Rattle.model.specs.Sheet.{word, cycle, OnSheet, ticksOutside, countsOutside, timesOutside, rowWrong, rowRefusal, streamRefusal, bodyRefusal, headerRefusal, sheetRefusal}
-use Rattle.model.specs.Analysis.{streamOf, streamsFrom, outranks, above, mostReleases, interference, waitFor, lateAt, verdictAt, search, verdict, higherStreams, verdictOf}
+use Rattle.model.specs.Analysis.{streamOf, streamsFrom, outranks, above, mostReleases, interference, waitFor, search, verdict, higherStreams, verdictOf}
 use Rattle.model.specs.Protocol.{KeepsPeriod, ofNode, queuedBefore, waiting, beginsFrom, serve, nextNode, nextBus, turn, start, stateAt, startOf, nodeOf, TurnsBefore, run, replayed}
 use Rattle.model.specs.Answers.{roomRefusal, tickBefore, releaseRefusal, logRefusal, horizonRefusal, unknownRefusal, verdictAnswer, lateRefusal, nodeLateRefusal, waitWord, bufferAfter, oneStreamAnswer, admitAnswer, admitBuffer, replayAnswer, stepped}
-use Rattle.model.specs.Demand.{StreamWait, StreamLate, AllJudged, messagesOf, BeginsWithin, NextTurn, PeriodsKept, DueBefore, WholeReplay}
+use Rattle.model.specs.Demand.{StreamWait, StreamLate, AllJudged, messagesOf, BeginsWithin, NextTurn, PeriodsKept, Premises, DueBefore, WholeReplay}
 use Rattle.model.specs.Bench.{sheetA, crowdedBy, logCrowded, logPeriodic}
 use Rattle.model.proofs.Protocol.Run.{turns-unique}
 use Rattle.model.proofs.Answers.Stepping.{inFront, stepping}
@@ -92,14 +92,15 @@ pub record Crowded (words : List ℕ) : Type 0 where
 
 pub crowded : (words : List ℕ) → WholeReplay A logCrowded 18 3 23 words → Crowded words
 unfolding
-    sheetA crowdedBy sum upTo cycle firstIn first firstOnes streamsFrom outranks above mostReleases interference waitFor lateAt verdictAt search verdict verdictOf
+    sheetA crowdedBy sum upTo cycle firstIn first firstOnes streamsFrom outranks above mostReleases interference waitFor search verdict verdictOf
     ofNode queuedBefore waiting beginsFrom serve nextNode nextBus turn start stateAt
 crowded words whole =
     let due : DueBefore A logCrowded 18 1 1 16 4 = record { inLog = omega arith; ofStream = refl; inTime = omega arith } in
     let kept : PeriodsKept A logCrowded 1 1 = record { itself = once 40 40 60 2 1 (omega arith) (λ e. omega arith); rankedAbove = λ i on e. absurd (highest 40 40 60 1 refl refl i on e) } in
-    let m : BeginsWithin logCrowded words 16 4 =
-    whole .withinWait 1 1 16 1 (on-node-1 40 40 60 1 (omega arith) (omega arith)) refl kept 4 due
+    let premises : Premises A logCrowded 1 1 16 1 =
+    record { onSheet = on-node-1 40 40 60 1 (omega arith) (omega arith); listed = refl; kept = kept }
     in
+    let m : BeginsWithin logCrowded words 16 4 = whole .withinWait 1 1 16 1 premises 4 due in
     record {
       words0 = whole .everyRelease 0 (omega arith);
       words1 = whole .everyRelease 1 (omega arith);
@@ -170,17 +171,25 @@ pub record Periodic (words : List ℕ) : Type 0 where
   pub first : BeginsWithin logPeriodic words 16 4
 
 pub periodic : (turns next : ℕ) (words : List ℕ) → WholeReplay A logPeriodic 57 turns next words → Periodic words
-unfolding sheetA logPeriodic sum upTo cycle streamsFrom outranks above mostReleases interference waitFor lateAt verdictAt search verdict verdictOf
+unfolding sheetA logPeriodic sum upTo cycle streamsFrom outranks above mostReleases interference waitFor search verdict verdictOf
 periodic turns next words whole =
     record {
       second =
-          whole .withinWait 1 2 33 2 (on-node-1 40 40 60 2 (omega arith) (omega arith)) refl
-          (record { itself = once-second; rankedAbove = λ i on e. rw (only-first i on e) apart })
+          whole .withinWait 1 2 33 2
+          (record {
+            onSheet = on-node-1 40 40 60 2 (omega arith) (omega arith);
+            listed = refl;
+            kept = record { itself = once-second; rankedAbove = λ i on e. rw (only-first i on e) apart };
+          })
           3
           (record { inLog = omega arith; ofStream = refl; inTime = omega arith });
       first =
-          whole .withinWait 1 1 16 1 (on-node-1 40 40 60 1 (omega arith) (omega arith)) refl
-          (record { itself = apart; rankedAbove = λ i on e. absurd (highest 40 40 60 1 refl refl i on e) })
+          whole .withinWait 1 1 16 1
+          (record {
+            onSheet = on-node-1 40 40 60 1 (omega arith) (omega arith);
+            listed = refl;
+            kept = record { itself = apart; rankedAbove = λ i on e. absurd (highest 40 40 60 1 refl refl i on e) };
+          })
           4
           (record { inLog = omega arith; ofStream = refl; inTime = omega arith });
     }
@@ -202,43 +211,43 @@ unfolding
     roomRefusal tickBefore releaseRefusal logRefusal horizonRefusal replayAnswer
 periodic-replay = periodic 32 57 (0 ∷ 6 ∷ 11 ∷ 17 ∷ 40 ∷ []) (demand3 A logPeriodic 57 refl)
 
--- Sheet A with the deadline 37 for both streams of node 1: the shorter period is ranked above.
-abbrev A37 : List ℕ
-A37 = sheetA 40 37 37
+-- Sheet A with the deadline 38 for both streams of node 1: the shorter period is ranked above.
+abbrev A38 : List ℕ
+A38 = sheetA 40 38 38
 
 -- Demand 2 about node 1's second stream: on sheet A it has the wait 33 at J = 2, has a place in its turn, and is not late; with the
--- deadlines 37 it is late and has no wait. And about all streams: admit writes 33 for it, or refuses there, with the first in time.
+-- deadlines 38 it is late and has no wait: it could be delivered 39 ticks after its release. And about all streams: admit writes 33 for it, or refuses there, with the first in time.
 pub record Second : Type 0 where
   pub listed : StreamWait A 1 2 2 33
   pub placed : 1 ≤ interference (higherStreams A 1 2) 33
   pub notLate : StreamLate A 1 2 → ⊥
-  pub late : StreamLate A37 1 2
-  pub noWait : (J wait : ℕ) → StreamWait A37 1 2 J wait → ⊥
+  pub late : StreamLate A38 1 2
+  pub noWait : (J wait : ℕ) → StreamWait A38 1 2 J wait → ⊥
   pub admitted : (J : ℕ) × StreamWait A 1 2 J 33
-  pub refused : OnSheet A37 1 2 × StreamLate A37 1 2
-  pub before : (J wait : ℕ) × StreamWait A37 1 1 J wait
+  pub refused : OnSheet A38 1 2 × StreamLate A38 1 2
+  pub before : (J wait : ℕ) × StreamWait A38 1 1 J wait
 
 pub second : Second
 unfolding
     sheetA sum upTo cycle refuseIf _orElse_ firstOf outside
     ticksOutside countsOutside timesOutside rowWrong rowRefusal streamRefusal bodyRefusal headerRefusal sheetRefusal
-    streamsFrom outranks above mostReleases interference waitFor lateAt verdictAt search verdict verdictOf
+    streamsFrom outranks above mostReleases interference waitFor search verdict verdictOf
     unknownRefusal verdictAnswer oneStreamAnswer roomRefusal lateRefusal nodeLateRefusal waitWord valuesFrom joinedFrom bufferAfter admitAnswer admitBuffer
 second =
     let judged = demand2 .oneStream A refl 1 2 (on-node-1 40 40 60 2 (omega arith) (omega arith)) in
-    let judged37 = demand2 .oneStream A37 refl 1 2 (on-node-1 40 37 37 2 (omega arith) (omega arith)) in
+    let judged38 = demand2 .oneStream A38 refl 1 2 (on-node-1 40 38 38 2 (omega arith) (omega arith)) in
     let all = demand2 .admission A (9 ∷ 9 ∷ 9 ∷ []) refl (omega arith) in
-    let all37 = demand2 .admission A37 (9 ∷ 9 ∷ 9 ∷ []) refl (omega arith) in
+    let all38 = demand2 .admission A38 (9 ∷ 9 ∷ 9 ∷ []) refl (omega arith) in
     let listed : StreamWait A 1 2 2 33 = judged .listed 33 2 .0 refl in
     record {
       listed = listed;
       placed = judged .placed 33 2 listed;
       notLate = λ late. omega (arith, ap (λ (a : Answer). a .number) (judged .late .1 late));
-      late = judged37 .late .0 refl;
-      noWait = λ J wait h. omega (arith, ap (λ (a : Answer). a .number) (judged37 .listed wait J .1 h));
+      late = judged38 .late .0 refl;
+      noWait = λ J wait h. omega (arith, ap (λ (a : Answer). a .number) (judged38 .listed wait J .1 h));
       admitted = all .admitted refl 1 2 (on-node-1 40 40 60 2 (omega arith) (omega arith));
-      refused = all37 .refused refl;
-      before = all37 .first refl 1 1 (on-node-1 40 37 37 1 (omega arith) (omega arith)) (omega arith);
+      refused = all38 .refused refl;
+      before = all38 .first refl 1 1 (on-node-1 40 38 38 1 (omega arith) (omega arith)) (omega arith);
     }
 
 -- No stream of sheet A is late, so that demand 2 leaves admit no answer but number 0, whatever it writes.
@@ -246,7 +255,7 @@ none-late : (k j : ℕ) → OnSheet A k j → StreamLate A k j → ⊥
 unfolding
     sheetA sum upTo cycle refuseIf _orElse_ firstOf outside
     ticksOutside countsOutside timesOutside rowWrong rowRefusal streamRefusal bodyRefusal headerRefusal sheetRefusal
-    streamsFrom outranks above mostReleases interference waitFor lateAt verdictAt search verdict verdictOf
+    streamsFrom outranks above mostReleases interference waitFor search verdict verdictOf
     unknownRefusal verdictAnswer oneStreamAnswer
 none-late zero j on late = omega (arith, on .nodeFrom)
 none-late (suc zero) zero on late = omega (arith, on .streamFrom)

@@ -12,6 +12,7 @@ use Rattle.model.proofs.Demand.Accepted.{Replay, accepted-replay}
 use Rattle.model.proofs.Demand.Distance.{turns-apart}
 use Rattle.model.proofs.Demand.TurnMessages.{messages-most}
 use Rattle.model.proofs.Demand.WithinWait.{begins-within-wait}
+use Rattle.model.proofs.Demand.Delivery.{delivered-in-time}
 
 pub demand3 : Demand3
 demand3 s log horizon accepts =
@@ -25,5 +26,8 @@ demand3 s log horizon accepts =
       everyRelease = λ i h. ap (λ (w : List ℕ). word w i) words;
       oneCycleApart = λ a b next h. omega (arith, turns-apart (r .fits) log next);
       withinBudget = λ i h. rw words (omega (arith, messages-most r i h));
-      withinWait = λ k j wait cycles on listed kept i due. rw words (begins-within-wait r on listed kept i due);
+      withinWait = λ k j wait cycles p i due. rw words (begins-within-wait r p i due);
+      delivered = λ k j wait cycles p i due.
+          let d = delivered-in-time r p i (record { inLog = due .inLog; ofStream = due .ofStream; inTime = omega (arith, due .inTime) }) in
+          rw words (record { turn = d .turn; begins = d .begins; over = omega (arith, d .over) });
     }

@@ -31,19 +31,28 @@ whole-same {s} {log} {horizon} {turns} {next} {words} {other} same whole =
       everyRelease = λ i h. same i (omega arith) ∙ whole .everyRelease i h;
       oneCycleApart = whole .oneCycleApart;
       withinBudget = λ i h. rw (messages i) (whole .withinBudget i h);
-      withinWait = λ k j wait cycles on listed kept i due.
-          let begins = whole .withinWait k j wait cycles on listed kept i due in
+      withinWait = λ k j wait cycles premises i due.
+          let begins = whole .withinWait k j wait cycles premises i due in
           let e = same i (due .inLog) in
           record { written = rw e (begins .written); notEarlier = rw e (begins .notEarlier); within = rw e (begins .within) };
+      delivered = λ k j wait cycles premises i due.
+          let d = whole .delivered k j wait cycles premises i due in
+          record { turn = d .turn; begins = begins-same (d .turn) i (due .inLog) ∙ d .begins; over = d .over };
     }
   where
-    messages : (i : ℕ) → messagesOf s log other i ≡ messagesOf s log words i
-    messages i =
+    begins-same : (t i : ℕ)
+        → i < releases log
+        → beganWithin other (startOf s log t) (startOf s log (suc t)) i
+        ≡ beganWithin words (startOf s log t) (startOf s log (suc t)) i
+    begins-same t i h = ap (λ w. leb (startOf s log t) w && ltb w (startOf s log (suc t))) (same i h)
+
+    messages : (t : ℕ) → messagesOf s log other t ≡ messagesOf s log words t
+    messages t =
         countBelow-same
-        (beganWithin other (startOf s log i) (startOf s log (suc i)))
-        (beganWithin words (startOf s log i) (startOf s log (suc i)))
+        (beganWithin other (startOf s log t) (startOf s log (suc t)))
+        (beganWithin words (startOf s log t) (startOf s log (suc t)))
         (releases log)
-        (λ r h. ap (λ w. leb (startOf s log i) w && ltb w (startOf s log (suc i))) (same r h))
+        (begins-same t)
 
 module _ (s log : List ℕ) (horizon : ℕ) where
   -- The claim, about the answer and the buffer of a replay that is not refused.

@@ -2,6 +2,7 @@
 -- turn began in that turn, as no tick lies in two turns; so they are no more than the turn took. Assumes nothing.
 use Prim.Native.Nat.{ℕ, zero, suc, _≤_, _<_}
 use mathlib.Core.Path.{_≡_}
+use mathlib.Core.Logic.{_↔_}
 use mathlib.Core.Bool.{Bool, true, Bool-discrete}
 use mathlib.Core.List.{List}
 use native.Mathlib.Omega.{arith}
@@ -9,7 +10,7 @@ use native.Mathlib.Nat.{le-refl, mul-le-mul-right}
 use native.Mathlib.Decide.{ℕ-discrete, decLt}
 use lib.Dec.{leb, ltb}
 use lib.ListN.{length, getD-replicate}
-use borrow.Author.Tests.{leb-true, ltb-true}
+use borrow.Author.Tests.{leb-true, ltb-true, le-leb, lt-ltb}
 use Rattle.model.specs.Limits.{notBegun}
 use Rattle.model.specs.Sheet.{word, messageTicks, budget}
 use Rattle.model.specs.Protocol.{releases, takenBy, serve, turn, start, stateAt, startOf, nodeOf}
@@ -22,8 +23,20 @@ use Rattle.model.proofs.Protocol.Clock.{takenIn, next-start, begins-len
 use Rattle.model.proofs.Demand.Accepted.{Replay}
 
 -- A tick lies in turn t: at or after its start, and before the tick at which the next turn starts.
-abbrev InTurn : List ℕ → List ℕ → ℕ → ℕ → Type 0
+abbrev pub InTurn : List ℕ → List ℕ → ℕ → ℕ → Type 0
 InTurn s log t tick = (startOf s log t ≤ tick) × (tick < startOf s log (suc t))
+
+-- That the written begin tick of release i does, as a test.
+pub within-turn : (s log words : List ℕ) (t i : ℕ)
+    → (beganWithin words (startOf s log t) (startOf s log (suc t)) i ≡ true) ↔ InTurn s log t (word words i)
+within-turn s log words t i =
+    let w = word words i in
+    let from = startOf s log t in
+    let next = startOf s log (suc t) in
+    let both = and-reading (leb from w) (ltb w next) in (
+      λ e. (leb-true from w (both .0 e .0), ltb-true w next (both .0 e .1)),
+      λ h. both .1 (le-leb from w (h .0), lt-ltb w next (h .1)),
+    )
 
 -- No tick lies in two turns.
 one-turn : (s log : List ℕ) (t u tick : ℕ) → InTurn s log t tick → InTurn s log u tick → t ≡ u
@@ -40,7 +53,7 @@ module _ {s log : List ℕ} {horizon turns : ℕ} (r : Replay s log horizon turn
   words t = omega (arith, begins-length s log t)
 
   -- The word that a release gets in a turn is a tick of that turn.
-  gets-tick : (t i : ℕ)
+  pub gets-tick : (t i : ℕ)
       → t < turns
       → (word (stateAt s log t .begins) i ≡ word (stateAt s log (suc t) .begins) i → ⊥)
       → InTurn s log t (word (stateAt s log (suc t) .begins) i)
@@ -105,8 +118,4 @@ module _ {s log : List ℕ} {horizon turns : ℕ} (r : Replay s log horizon turn
       inTurn = beganWithin (stateAt s log turns .begins) tick (startOf s log (suc u))
 
       took : (i : ℕ) → i < releases log → inTurn i ≡ true → (p : ℕ) × At (takenBy s log node tick (budget s node) begins) p i
-      took i n e =
-          let w = word (stateAt s log turns .begins) i in
-          let both = and-reading (leb tick w) (ltb w (startOf s log (suc u))) .0 e in
-          changed u i
-          (got-in turns u i (le-refl turns) h n (leb-true tick w (both .0), ltb-true w (startOf s log (suc u)) (both .1)))
+      took i n e = changed u i (got-in turns u i (le-refl turns) h n (within-turn s log (stateAt s log turns .begins) u i .0 e))

@@ -9,7 +9,7 @@ use Rattle.theory.specs.Queue.{firstIn, first, firstOnes}
 use Rattle.model.specs.Limits.{notBegun}
 use Rattle.model.specs.Refusal.{refuseIf, _orElse_, firstOf, outside}
 use Rattle.model.specs.Sheet.{word, cycle, ticksOutside, countsOutside, timesOutside, rowWrong, rowRefusal, streamRefusal, bodyRefusal, headerRefusal, sheetRefusal}
-use Rattle.model.specs.Analysis.{streamsFrom, outranks, above, mostReleases, interference, waitFor, lateAt, verdictAt, search, verdict, verdictOf}
+use Rattle.model.specs.Analysis.{streamsFrom, outranks, above, mostReleases, interference, waitFor, search, verdict, verdictOf}
 use Rattle.model.specs.Protocol.{ofNode, queuedBefore, waiting, beginsFrom, serve, nextNode, nextBus, turn, start, stateAt, run, replayed}
 use Rattle.model.specs.Answers.{roomRefusal, tickBefore, releaseRefusal, logRefusal, horizonRefusal, unknownRefusal, verdictAnswer, oneStreamAnswer, replayAnswer}
 use Rattle.model.specs.Demand.{StreamWait, BeginsWithin, PeriodsKept, WholeReplay}
@@ -35,7 +35,7 @@ pub urgent : (words : List ℕ) → WholeReplay P2 logUrgent 18 3 23 words → U
 unfolding
     sheetA crowdedBy sum upTo cycle firstIn first firstOnes refuseIf _orElse_ firstOf outside
     ticksOutside countsOutside timesOutside rowWrong rowRefusal streamRefusal bodyRefusal headerRefusal sheetRefusal
-    streamsFrom outranks above mostReleases interference waitFor lateAt verdictAt search verdict verdictOf
+    streamsFrom outranks above mostReleases interference waitFor search verdict verdictOf
     ofNode queuedBefore waiting beginsFrom serve nextNode nextBus turn start stateAt
     unknownRefusal verdictAnswer oneStreamAnswer
 urgent words whole =
@@ -49,7 +49,7 @@ urgent words whole =
       behind = demand2 .oneStream P2 refl 1 1 one .listed 33 2 .0 refl;
       passed = whole .everyRelease 1 (omega arith);
       message =
-          whole .withinWait 1 2 16 1 two refl kept 4
+          whole .withinWait 1 2 16 1 (record { onSheet = two; listed = refl; kept = kept }) 4
           (record { inLog = omega arith; ofStream = refl; inTime = omega arith });
     }
 

@@ -1,17 +1,16 @@
 -- Every message of a stream with a listed wait begins within that wait: the theorem about ranked nodes, on the line of its node, with
 -- turns at most a full cycle apart and the interference of the streams above. Assumes nothing.
-use Prim.Native.Nat.{ℕ, _-_, _*_, _≤_, _<_}
+use Prim.Native.Nat.{ℕ, suc, _-_, _*_, _≤_, _<_}
 use mathlib.Core.Path.{_≡_}
 use mathlib.Core.Bool.{true}
 use mathlib.Core.List.{List}
 use native.Mathlib.Omega.{arith}
 use native.Mathlib.Nat.{le-refl, one-le-mul}
-use Rattle.model.specs.declared.Verdict.the-variants.{Listed}
 use Rattle.model.specs.Limits.{notBegun}
 use Rattle.model.specs.Sheet.{word, messageTicks, streamCount, budget, period, deadline, cycle, runningNumber, OnSheet}
-use Rattle.model.specs.Analysis.{interference, waitFor, higherStreams, timingOf, verdictOf}
+use Rattle.model.specs.Analysis.{interference, waitFor, longestTurn, higherStreams, timingOf}
 use Rattle.model.specs.Protocol.{releases, releaseTick, releaseStream, ofNode, stateAt, startOf}
-use Rattle.model.specs.Demand.{StreamWait, PeriodsKept, BeginsWithin, DueBefore}
+use Rattle.model.specs.Demand.{StreamWait, PeriodsKept, Premises, BeginsWithin, DueBefore}
 use Rattle.model.proofs.Sheet.ValidSheet.{SheetFits}
 use Rattle.model.proofs.Sheet.NodeSums.{cycle-least}
 use Rattle.model.proofs.Analysis.Wait.{in-time-cycles}
@@ -30,6 +29,17 @@ own-message : {s : List ℕ} {k j : ℕ} (n : ℕ) → OnSheet s k j → n ≡ r
 own-message {s} {k} n on e =
     ofNode-reading s k n .1 (omega (arith, sumTo-split (streamCount s) k (on .nodeFrom), on .streamFrom, on .streamTo))
 
+-- The cycles of a listed wait are within the stream's deadline.
+pub cycles-within : {s : List ℕ} {k j J wait : ℕ}
+    → SheetFits s
+    → OnSheet s k j
+    → StreamWait s k j J wait
+    → J * cycle s ≤ deadline s k j
+cycles-within {s} {k} {j} {J} fits on listed =
+    let messages = one-le-mul (fits .rows k (on .nodeFrom) (on .nodeTo) .budgetFrom) (fits .header .messageFrom) in
+    let some : 1 ≤ longestTurn (timingOf s k) = omega (arith, messages, fits .header .slotFrom) in
+    in-time-cycles (timingOf s k) (deadline s k j) J some (listed .inTime)
+
 -- What the theorem about ranked nodes asks of a message. (J cycles are within the deadline, and so within the period.)
 ranked : {s log : List ℕ} {k j J wait M : ℕ} (turns : ℕ)
     → SheetFits s
@@ -43,9 +53,7 @@ ranked {s} {log} {k} {j} {J} {M} turns fits on listed kept inLog ofStream =
     let one = listed .least .fromOne in
     let some : 1 ≤ J * cycle s = one-le-mul one (omega (arith, cycle-least s fits)) in
     let room : budget s k * messageTicks s ≤ cycle s = omega (arith, turn-in-cycle s k (on .nodeFrom) (on .nodeTo)) in
-    let H : ℕ → ℕ = interference (higherStreams s k j) in
-    let cycles = in-time-cycles H (timingOf s k) (deadline s k j) J (fits .header .messageFrom) (listed .inTime) in
-    let short : J * cycle s ≤ period s k j = omega (arith, cycles, fits .streams k j on .deadlineTo) in
+    let short : J * cycle s ≤ period s k j = omega (arith, cycles-within fits on listed, fits .streams k j on .deadlineTo) in
     record {
       inLog = inLog;
       own = own-message (releaseStream log M) on ofStream;
@@ -56,34 +64,48 @@ ranked {s} {log} {k} {j} {J} {M} turns fits on listed kept inLog ofStream =
       most = λ lo h. class-came turns M fits on kept ofStream lo (J * cycle s) some short;
     }
 
--- A message that is due before the horizon begins within the listed wait of its stream: had it not begun, the next turn would
--- start before the horizon.
+-- What is known of message i of a stream of node k that has begun in the replay: which turn took it, and when.
+abbrev pub BeganInReplay : List ℕ → List ℕ → ℕ → ℕ → ℕ → ℕ → ℕ → Type 0
+BeganInReplay s log k j J turns i =
+    BeganInTime (lineOf s log k turns) (λ d. d * cycle s) J (interference (higherStreams s k j) (J * cycle s - 1)) i turns
+
+module _ {s log : List ℕ} {horizon turns k j wait J : ℕ} (r : Replay s log horizon turns) (p : Premises s log k j wait J) where
+  -- The stream has that listed wait, at J.
+  pub listed-wait : StreamWait s k j J wait
+  listed-wait = stream-exact s k j (omega (arith, cycle-least s (r .fits))) .listed wait J .0 (p .listed)
+
+  module _ (ticks i : ℕ) (enough : J * cycle s ≤ suc ticks) (due : DueBefore s log horizon k j ticks i) where
+    served : IsServed (lineOf s log k turns)
+    served = line-served r k (p .onSheet .nodeFrom)
+
+    message : Ranked (lineOf s log k turns) (λ d. d * cycle s) J (interference (higherStreams s k j) (J * cycle s - 1)) i
+    message = ranked turns (r .fits) (p .onSheet) listed-wait (p .kept) (due .inLog) (due .ofStream)
+
+    -- A message that is due before the horizon, in at least J cycles, has begun: had it not, the next turn would start before the
+    -- horizon.
+    pub has-begun : word (stateAt s log turns .begins) i ≡ notBegun → ⊥
+    has-begun w =
+        let late : releaseTick log i ≤ startOf s log turns = omega (arith, due .inTime, r .counted .ended) in
+        let next = ranked-waits served message turns (le-refl turns) w late in
+        omega (arith, due .inTime, r .counted .ended)
+
+    pub begun-in-time : BeganInReplay s log k j J turns i
+    begun-in-time = ranked-began served message turns (le-refl turns) has-begun
+
+-- A message that is due before the horizon begins within the listed wait of its stream.
 pub begins-within-wait : {s log : List ℕ} {horizon turns k j wait J : ℕ}
     → Replay s log horizon turns
-    → OnSheet s k j
-    → verdictOf s k j ≡ Listed wait J
-    → PeriodsKept s log k j
+    → Premises s log k j wait J
     → (i : ℕ)
     → DueBefore s log horizon k j wait i
     → BeginsWithin log (stateAt s log turns .begins) wait i
 unfolding waitFor
-begins-within-wait {s} {log} {horizon} {turns} {k} {j} {wait} {J} r on verdict kept i due =
-    record { written = begun; notEarlier = omega (arith, in-time .notEarlier); within = omega (arith, in-time .within, listed .wait) }
-  where
-    listed : StreamWait s k j J wait
-    listed = stream-exact s k j (omega (arith, cycle-least s (r .fits))) .listed wait J .0 verdict
-
-    served : IsServed (lineOf s log k turns)
-    served = line-served r k (on .nodeFrom)
-
-    message : Ranked (lineOf s log k turns) (λ d. d * cycle s) J (interference (higherStreams s k j) (J * cycle s - 1)) i
-    message = ranked turns (r .fits) on listed kept (due .inLog) (due .ofStream)
-
-    begun : word (stateAt s log turns .begins) i ≡ notBegun → ⊥
-    begun w =
-        let late : releaseTick log i ≤ startOf s log turns = omega (arith, due .inTime, r .counted .ended) in
-        let next = ranked-waits served message turns (le-refl turns) w late in
-        omega (arith, due .inTime, r .counted .ended, listed .wait)
-
-    in-time : BeganInTime (lineOf s log k turns) (λ d. d * cycle s) J (interference (higherStreams s k j) (J * cycle s - 1)) i turns
-    in-time = ranked-began served message turns (le-refl turns) begun
+begins-within-wait {s} {log} {k} {j} {wait} {J} r p i due =
+    let same = listed-wait r p .wait in
+    let enough : J * cycle s ≤ suc wait = omega arith in
+    let b = begun-in-time r p wait i enough due in
+    record {
+      written = has-begun r p wait i enough due;
+      notEarlier = omega (arith, b .notEarlier);
+      within = omega (arith, b .within);
+    }

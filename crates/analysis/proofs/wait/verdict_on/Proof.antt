@@ -7,7 +7,7 @@ use Rattle.model.specs.declared.Stream.{Stream}
 use Rattle.model.proofs.Sheet.ValidSheet.{valid-fits}
 use Rattle.analysis.specs.Periods.{higherPeriods}
 use Rattle.analysis.proofs.Periods.{verdict-periods}
-use Rattle.analysis.proofs.InRange.{above-divisors, stream-ranges}
+use Rattle.analysis.proofs.InRange.{above-divisors, node-ranges, deadline-range}
 use Rattle.analysis.proofs.wait.verdict_on.Statement.{statement}
 use Rattle.analysis.proofs.wait.verdict_on.Tie as tie
 
@@ -38,7 +38,8 @@ search-from-one-requires c κs =
     let s = a .sheet .now in
     let fits = valid-fits s (p .0) in (
       rw (c .before .before .higher-periods .ensures .1) (above-divisors s (a .k) (c .before .before .before .before .before .stream-of .result) fits (p .1 .nodeFrom) (p .1 .nodeTo)),
-      rw (c .before .before .before .before .timing-of .ensures, c .before .before .before .before .before .stream-of .ensures) (stream-ranges s (a .k) (a .j) fits (p .1)),
+      rw (c .before .before .before .before .timing-of .ensures) (node-ranges s (a .k) fits (p .1 .nodeFrom) (p .1 .nodeTo)),
+      rw (c .before .before .before .before .before .stream-of .ensures) (deadline-range s (a .k) (a .j) fits (p .1)),
     )
 
 returns : tie.Need-returns

@@ -1,0 +1,48 @@
+//! The wrong late tests. Request Four of document 02 says when a message is
+//! delivered: when the protocol slot of its turn ends.
+
+use super::admit_with;
+use crate::admission::{delivery, least_cycles, Listed};
+use crate::sheet::Bus;
+use crate::Answer;
+
+/// Error 22: the old test, by which a message is delivered when it ends.
+pub fn admit_delivering_at_own_end(sheet: &[u32], room: &mut [u32]) -> Answer {
+    admit_judging(sheet, room, |bus, _, found| found.wait + bus.message_ticks)
+}
+
+/// Error 23: the turn ends behind the message's own place, as if none came
+/// after it in its turn.
+pub fn admit_delivering_behind_own_place(sheet: &[u32], room: &mut [u32]) -> Answer {
+    admit_judging(sheet, room, |bus, _, found| {
+        found.wait + bus.message_ticks + bus.slot_ticks
+    })
+}
+
+/// Error 24: the turn ends before its protocol slot.
+pub fn admit_delivering_before_the_slot(sheet: &[u32], room: &mut [u32]) -> Answer {
+    admit_judging(sheet, room, |bus, stream, found| {
+        delivery(bus, stream, found.cycles) - bus.slot_ticks
+    })
+}
+
+/// Error 25: a delivery at the deadline itself is late.
+pub fn admit_late_at_the_deadline(sheet: &[u32], room: &mut [u32]) -> Answer {
+    admit_judging(sheet, room, |bus, stream, found| {
+        delivery(bus, stream, found.cycles) + 1
+    })
+}
+
+/// Admits with another delivery, which must not be above the deadline.
+fn admit_judging(
+    sheet: &[u32],
+    room: &mut [u32],
+    delivered: fn(&Bus, usize, Listed) -> u64,
+) -> Answer {
+    admit_with(sheet, room, |bus, stream| {
+        let deadline = u64::from(bus.streams()[stream].deadline);
+        // None of these delivers before J × C, so no later J is in time.
+        let found = least_cycles(bus, stream, deadline / bus.cycle())?;
+        (delivered(bus, stream, found) <= deadline).then_some(found.wait)
+    })
+}
