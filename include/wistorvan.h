@@ -47,8 +47,8 @@ enum wistorvan_number {
     /* The room is shorter than one word a stream (admit) or a release (replay, step), or than the sheet (write_sheet).
        Place: 0, 0. */
     WISTORVAN_ROOM_TOO_SHORT = 6,
-    /* A stream is late, as a message of it could be delivered, when its turn's protocol slot ends, after its deadline: the first
-       in sheet order (admit) or the asked one (one_stream). Place: node, stream. */
+    /* A stream is late: a message of it could be delivered after its deadline (delivery is when its turn's protocol slot ends).
+       The first in sheet order (admit) or the asked one (one_stream). Place: node, stream. */
     WISTORVAN_LATE = 7,
     /* The sheet has no such stream (one_stream). Place: node, stream as asked. */
     WISTORVAN_NO_SUCH_STREAM = 8,

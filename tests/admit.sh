@@ -73,7 +73,7 @@ admit "a tie of deadlines and periods" "$work/number" "node stream wait" "1 1 16
 words behind 2 5 1 9 2 1 13 1 2 40 38 60 38 30 30
 admit "P2 with node 1's first deadline also 38" "$work/behind" "refused 7 at 1 2"
 
-# Delivery is at the end of the turn: 5 and 6 more in P7; and a message that is first of two is delivered with the second, 27 after its release.
+# Delivery is at the end of the turn: 5 and 6 more in P7; and a message that is first of two is delivered with the second, within 27.
 words p7 1 5 1 6 2 1 10 10 100 100
 admit "P7" "$work/p7" "refused 7 at 1 1"
 words p7-11 1 5 1 6 2 1 11 11 100 100

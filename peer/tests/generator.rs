@@ -76,8 +76,8 @@ fn cases_spread_over_all_levels_of_the_rank() {
     least("step 0, ordered by", [170, 25, 60, 60, 110]);
 }
 
-/// Shares of 5,000 cases in which a deadline was met or missed by a hair, for
-/// short and long waits, and for turns of one message and of several.
+/// Shares of 5,000 cases in which a deadline was met or missed by a tick at
+/// most, for short and long waits, and for turns of one message and of several.
 #[test]
 fn cases_spread_over_both_sides_of_the_late_test() {
     let figures = gather(8, 5_000);

@@ -43,9 +43,9 @@ pub enum Reason {
     /// 6: the room is shorter than one word a stream (admit) or a release
     /// (replay, step), or than the sheet (write sheet). Place 0, 0.
     RoomTooShort,
-    /// 7: a stream is late, as a message of it could be delivered, when its
-    /// turn's protocol slot ends, after its deadline: the first in sheet order
-    /// (admit) or the asked one (one stream). Place node, stream.
+    /// 7: a stream is late: a message of it could be delivered after its
+    /// deadline (delivery is when its turn's protocol slot ends). The first in
+    /// sheet order (admit) or the asked one (one stream). Place node, stream.
     Late,
     /// 8: the sheet has no such stream. Place node, stream as asked.
     NoSuchStream,

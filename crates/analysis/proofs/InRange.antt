@@ -1,7 +1,7 @@
 -- A valid sheet gives what specs/InRange has: the body of a node is all there, and what the search for J is asked with is in range.
 -- Assumes nothing.
 use Prim.Native.Nat.{ℕ, zero, suc, _+_, _≤_, _<_}
-use native.Mathlib.Nat.{le-refl, le-trans, le-of-suc-le-suc}
+use native.Mathlib.Nat.{le-refl, le-trans, le-of-suc-le-suc, mul-le-mul}
 use native.Mathlib.Omega.{arith}
 use mathlib.Core.Path.{_≡_}
 use mathlib.Core.Bool.{Bool, true, false, cond}
@@ -78,6 +78,7 @@ node-ranges s k fits low high =
       budgetTo = fits .rows k low high .budgetTo;
       messageTo = fits .header .messageTo;
       slotTo = fits .header .slotTo;
+      messagesTo = mul-le-mul (fits .rows k low high .budgetTo) (fits .header .messageTo);
     }
 
 -- and so is the deadline of a stream.

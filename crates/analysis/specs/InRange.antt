@@ -26,6 +26,7 @@ pub record Ranges (t : Timing) : Type 0 where
   pub budgetTo : t .budget ≤ maxBudget
   pub messageTo : t .message ≤ maxSlotTicks
   pub slotTo : t .slot ≤ maxSlotTicks
+  pub messagesTo : t .budget * t .message ≤ maxBudget * maxSlotTicks
 
 -- The search has come to J: h is the interference in J cycles, which J turns have places beyond, and J - 1 turns had not.
 pub record FoundJ (periods : List ℕ) (t : Timing) (J h : ℕ) : Type 0 where

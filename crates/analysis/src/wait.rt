@@ -49,10 +49,11 @@ fn tries_worth(timing: Timing, deadline: u32) -> u32
     ensures { λ r. ⌜ r ≡ triesWorth timing deadline ⌝ }
 {
     let turn = timing.budget * timing.message + timing.slot;
-    if deadline < turn {
-        return 0;
+    if turn <= deadline {
+        (deadline + 1 - turn) / timing.cycle
+    } else {
+        0
     }
-    (deadline + 1 - turn) / timing.cycle
 }
 
 // The listed wait at J, "cycles", where h is the interference in so many.

@@ -1,5 +1,6 @@
--- "Bench sheets": P1 to P12 of document 01, and the one that document 02 adds, as one list, each with its whole outcome; and further cases. A case lends a buffer of 9s that is one
--- word longer than needed, so that the words an entry must leave are seen too. Rules 10. Assumes nothing.
+-- "Bench sheets": P1 to P12 of document 01, and the one that document 02 adds, as one list, each with its whole outcome; and further
+-- cases. A case lends a buffer of 9s that is one word longer than needed, so that the words an entry must leave are seen too. Rules 10.
+-- Assumes nothing.
 use Prim.Native.Nat.{ℕ, suc}
 use mathlib.Core.Path.{_≡_}
 use mathlib.Core.List.{List, [], _∷_, map}
@@ -40,7 +41,7 @@ outcomeOf (replay s log horizon) =
     let room = lent (releases log) in
     record { answer = replayAnswer s log horizon (length room); buffer = replayBuffer s log horizon room }
 
--- A case: a question with the answer and the buffer that document 01 gives.
+-- A case: a question with the answer and the buffer that the papers give.
 unfoldable pub gives : Question → Answer → List ℕ → Case
 gives q a words = record { question = q; outcome = record { answer = a; buffer = words } }
 

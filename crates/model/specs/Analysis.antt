@@ -82,8 +82,8 @@ deliveredAfter t J = J * t .cycle - 1 + longestTurn t
 unfoldable pub lateAt : Timing → ℕ → ℕ → Bool
 lateAt t deadline J = ltb deadline (deliveredAfter t J)
 
--- How many J are worth a try: the largest with J × C − 1 + budget × TMS + TPR not above the deadline. proofs/Analysis/Wait says that
--- they are the ones from 1 up that the late test passes.
+-- How many J are worth a try: the largest with J × C − 1 + budget × TMS + TPR not above the deadline, 0 if there is none.
+-- proofs/Analysis/Wait says that these are the J from 1 up at which the late test does not hold.
 abbrev pub triesWorth : Timing → ℕ → ℕ
 triesWorth t deadline = (deadline + 1 - longestTurn t) / t .cycle
 

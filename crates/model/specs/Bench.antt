@@ -1,4 +1,4 @@
--- "Bench sheets": the sheets and logs of P1 to P12, and logs to which the demands are applied. Rules 10. Assumes nothing.
+-- "Bench sheets": the sheets and logs of P1 to P12, and a sheet and logs to which the demands are applied. Rules 10. Assumes nothing.
 use Prim.Native.Nat.{ℕ}
 use mathlib.Core.List.{List, [], _∷_}
 

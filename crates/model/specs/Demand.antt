@@ -104,14 +104,14 @@ pub record NextTurn (s log : List ℕ) (a b : ℕ) : Type 0 where
   pub sameNode : nodeOf s log b ≡ nodeOf s log a
   pub noneBetween : (i : ℕ) → a < i → i < b → nodeOf s log i ≡ nodeOf s log a → ⊥
 
--- Release i is a "message of that stream whose release plus listed wait comes before the horizon", or plus its deadline: plus that
--- number of ticks.
+-- Release i is a "message of that stream", and its release plus so many ticks "comes before the horizon": its listed wait, or its
+-- deadline.
 pub record DueBefore (s log : List ℕ) (horizon k j ticks i : ℕ) : Type 0 where
   pub inLog : i < releases log
   pub ofStream : releaseStream log i ≡ runningNumber s k j
   pub inTime : releaseTick log i + ticks < horizon
 
--- What demand 3 says of a replay that reported so many turns and the next tick, and wrote these words, one a release.
+-- What demand 3, and the promise of delivery, say of a replay that reported so many turns and the next tick, and wrote these words, one a release.
 pub record WholeReplay (s log : List ℕ) (horizon turns next : ℕ) (words : List ℕ) : Type 0 where
   -- "The turns in demand 3 are those the protocol starts before the horizon", and the next would start at the tick reported
   pub turnsCounted : TurnsBefore s log horizon turns
@@ -130,14 +130,14 @@ pub record WholeReplay (s log : List ℕ) (horizon turns next : ℕ) (words : Li
       → BeginsWithin log words wait i
   -- "Under the premises of demand 3, every message whose release plus deadline comes before the horizon is delivered by its
   -- deadline"
-  pub delivered : (k j wait cycles : ℕ)
-      → Premises s log k j wait cycles
+  pub delivered : (k j wait J : ℕ)
+      → Premises s log k j wait J
       → (i : ℕ)
       → DueBefore s log horizon k j (deadline s k j) i
       → DeliveredBy s log words i (releaseTick log i + deadline s k j)
 
--- Demand 3, whole: for any valid sheet, and any log and horizon that the replay accepts, with the numbers that the replay
--- answers and the words that it writes.
+-- Demand 3, whole, and the promise of delivery: for any valid sheet, and any log and horizon that the replay accepts, with the numbers
+-- that the replay answers and the words that it writes.
 abbrev pub Demand3 : Type 0
 Demand3 =
     (s log : List ℕ) (horizon : ℕ) →

@@ -30,7 +30,7 @@ pub struct Stream {
     pub deadline: u32,
 }
 
-// What a wait goes by beside the streams above: the full cycle, "C"; the node's budget, "m"; and the ticks of a message and of a
+// What a wait and the late test go by beside the streams above: the full cycle, "C"; the node's budget, "m"; and the ticks of a message and of a
 // protocol slot, "TMS" and "TPR".
 pub struct Timing {
     pub cycle: u32,

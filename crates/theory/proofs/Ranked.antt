@@ -33,6 +33,7 @@ pub record BeganInTime (l : Line) (D : ℕ → ℕ) (J H M t : ℕ) : Type 0 whe
   pub place : ℕ
   pub earlier : turn < t
   pub own : l .ownTurn turn ≡ true
+  pub inBudget : place < l .budget
   pub took : Took l turn place M
   pub still : l .word t M ≡ l .word (suc turn) M
   pub starts : l .start turn < l .tick M + D J
@@ -108,6 +109,7 @@ module _ {l : Line} {D : ℕ → ℕ} {J H M : ℕ} (s : IsServed l) (r : Ranked
         place = g .place;
         earlier = g .earlier;
         own = g .own;
+        inBudget = g .inBudget;
         took = g .took;
         still = g .still;
         starts = starts-within (g .place) (g .turn) (g .window);

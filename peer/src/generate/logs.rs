@@ -159,11 +159,11 @@ fn before_the_end(random: &mut Random, traffic: &Traffic) -> Vec<Release> {
     burst(random, traffic, tick as u32, 60)
 }
 
-/// The morning on which a stream waits longest, if a log has room for it: the
+/// The log in which a stream waits longest, if a log has room for it: the
 /// stream releases just after a turn of its node has started, and so do those
 /// above it, as often as they may. All others have so much waiting from the
 /// start that their turns are full, and so is the one that takes the message.
-fn bad_morning(random: &mut Random, traffic: &Traffic) -> Option<Vec<Release>> {
+fn longest_wait(random: &mut Random, traffic: &Traffic) -> Option<Vec<Release>> {
     let bus = traffic.bus?;
     let any = lower_of_two(random, bus)?;
     let stream = traffic.sharp.unwrap_or(any);
@@ -199,11 +199,11 @@ fn releases(random: &mut Random, traffic: &Traffic) -> Vec<Release> {
         true => 3_000,
         false => 40,
     };
-    let bad = match traffic.sharp {
+    let longest = match traffic.sharp {
         Some(_) => 1_000,
         None => 40,
     };
-    match random.weighted(&[60, 150, 150, 170, 170, 140, 8, 8, 4, end, 180, bad]) {
+    match random.weighted(&[60, 150, 150, 170, 170, 140, 8, 8, 4, end, 180, longest]) {
         0 => Vec::new(),
         1 => {
             let count = random.between(1, 40);
@@ -217,7 +217,7 @@ fn releases(random: &mut Random, traffic: &Traffic) -> Vec<Release> {
         7 => scattered(random, traffic, most + 1),
         9 => before_the_end(random, traffic),
         10 => rivals(random, traffic),
-        11 => bad_morning(random, traffic).unwrap_or_else(|| bursts(random, traffic)),
+        11 => longest_wait(random, traffic).unwrap_or_else(|| bursts(random, traffic)),
         _ => vec![(LAST_TICK, traffic.any_stream(random)); 3],
     }
 }

@@ -8,7 +8,7 @@ use super::MOST_TRIES;
 use crate::admission::search;
 use crate::sheet::{LAST_TICK, MOST_STREAMS_A_NODE};
 
-/// Shares of a turn are counted in parts of this.
+/// Shares of a place in a turn are counted in parts of this.
 const WHOLE: u64 = 1 << 32;
 
 /// A node that is filled from the highest rank down, with each stream in time.
@@ -51,9 +51,9 @@ impl Ladder {
         (self.budget * WHOLE).saturating_sub(taken.sum())
     }
 
-    /// Adds streams until about 1 / `wanted` of a turn is left, so that one
+    /// Adds streams until about 1 / `wanted` of a place is left, so that one
     /// more has to wait for about so many cycles, or until there are `most`.
-    /// If a stream is in time with J, 1 / J of a turn or more was left and its
+    /// If a stream is in time with J, 1 / J of a place or more was left and its
     /// period takes less, so that there is always some left for the next.
     fn fill(&mut self, random: &mut Random, wanted: u64, most: usize) {
         while self.streams.len() < most {

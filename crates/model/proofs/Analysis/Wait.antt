@@ -1,6 +1,6 @@
--- "The listed wait" as a fact about whole numbers: the place in the turn is no negative number, and what
--- the late test says of J. The laws about that test stand here alone: it passes exactly the J that are worth a try, and where it
--- passes one, the latest delivery and the J cycles are within the deadline. Assumes nothing.
+-- "The listed wait" as a fact about whole numbers: the place in the turn is no negative number, and what the late test says of J. The
+-- laws about that test stand here alone: a J is in time, where it does not hold, exactly if it is worth a try; and then the latest
+-- delivery and the J cycles are within the deadline. Assumes nothing.
 use Prim.Native.Nat.{ℕ, zero, suc, pred, _+_, _-_, _*_, _≤_, _<_}
 use native.Mathlib.Nat.{pred-le, one-le-mul, mul-le-mul-right, le-div-iff-mul-le}
 use native.Mathlib.Omega.{arith}
@@ -29,16 +29,16 @@ module _ {H : ℕ → ℕ} {t : Timing} where
       omega (arith, grows (pred J * t .cycle - 1) (J * t .cycle - 1) (omega arith))
 
 module _ (t : Timing) (deadline J : ℕ) where
-  -- A J that the late test passes is delivered within the deadline,
+  -- With a J in time the latest delivery is within the deadline,
   pub in-time-delivered : lateAt t deadline J ≡ false → deliveredAfter t J ≤ deadline
   unfolding lateAt
   in-time-delivered early = ltb-false deadline (deliveredAfter t J) early
 
-  -- and so are its cycles, where a turn takes some time.
+  -- and so are the J cycles, as a turn takes some time.
   pub in-time-cycles : 1 ≤ longestTurn t → lateAt t deadline J ≡ false → J * t .cycle ≤ deadline
   in-time-cycles some early = omega (arith, in-time-delivered early)
 
-  -- The J from 1 up that the late test passes are those worth a try.
+  -- The J from 1 up that are in time are those worth a try.
   pub in-time-worth : 0 < t .cycle → 1 ≤ J → (lateAt t deadline J ≡ false) ↔ (J ≤ triesWorth t deadline)
   unfolding lateAt
   in-time-worth positive one =

@@ -216,7 +216,8 @@ abbrev A38 : List ℕ
 A38 = sheetA 40 38 38
 
 -- Demand 2 about node 1's second stream: on sheet A it has the wait 33 at J = 2, has a place in its turn, and is not late; with the
--- deadlines 38 it is late and has no wait: it could be delivered 39 ticks after its release. And about all streams: admit writes 33 for it, or refuses there, with the first in time.
+-- deadlines 38 it is late and has no wait: it could be delivered 39 ticks after its release. And about all streams: admit writes 33 for
+-- it, or refuses there, with the first in time.
 pub record Second : Type 0 where
   pub listed : StreamWait A 1 2 2 33
   pub placed : 1 ≤ interference (higherStreams A 1 2) 33

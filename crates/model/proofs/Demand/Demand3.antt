@@ -27,7 +27,8 @@ demand3 s log horizon accepts =
       oneCycleApart = λ a b next h. omega (arith, turns-apart (r .fits) log next);
       withinBudget = λ i h. rw words (omega (arith, messages-most r i h));
       withinWait = λ k j wait cycles p i due. rw words (begins-within-wait r p i due);
-      delivered = λ k j wait cycles p i due.
+      -- premise and bound by `omega`, so that a weaker promise would be met here and fall at its use
+      delivered = λ k j wait J p i due.
           let d = delivered-in-time r p i (record { inLog = due .inLog; ofStream = due .ofStream; inTime = omega (arith, due .inTime) }) in
           rw words (record { turn = d .turn; begins = d .begins; over = omega (arith, d .over) });
     }

@@ -12,7 +12,7 @@ use Rattle.model.specs.Sheet.{word, cycle, OnSheet, ticksOutside, counts
 use Rattle.model.specs.Analysis.{streamOf, streamsFrom, outranks, above, mostReleases, interference, waitFor, search, verdict, verdictOf}
 use Rattle.model.specs.Protocol.{KeepsPeriod, ofNode, queuedBefore, waiting, beginsFrom, serve, nextNode, nextBus, turn, start, stateAt, startOf, run, replayed}
 use Rattle.model.specs.Answers.{roomRefusal, tickBefore, releaseRefusal, logRefusal, horizonRefusal, replayAnswer}
-use Rattle.model.specs.Demand.{DeliveredBy, Premises, DueBefore, WholeReplay}
+use Rattle.model.specs.Demand.{DeliveredBy, Premises, WholeReplay}
 use Rattle.model.specs.Bench.{sheetPair, logPair}
 use Rattle.model.proofs.Demand.TurnMessages.{within-turn}
 use Rattle.model.proofs.Demand.Demand3.{demand3}
@@ -61,8 +61,9 @@ pub record Paired (words : List ℕ) : Type 0 where
 pub paired : (words : List ℕ) → WholeReplay Pair logPair 35 5 35 words → Paired words
 unfolding sheetPair logPair sum upTo firstIn first firstOnes outranks ofNode queuedBefore waiting beginsFrom serve nextNode nextBus turn start stateAt
 paired words whole =
-    let due : DueBefore Pair logPair 35 2 1 27 5 = record { inLog = omega arith; ofStream = refl; inTime = omega arith } in
-    let d : DeliveredBy Pair logPair words 5 34 = whole .delivered 2 1 16 1 premises 5 due in
+    let d : DeliveredBy Pair logPair words 5 34 =
+    whole .delivered 2 1 16 1 premises 5 (record { inLog = omega arith; ofStream = refl; inTime = omega arith })
+    in
     let in-turn = within-turn Pair logPair words (d .turn) 5 .0 (d .begins) in
     record {
       turn = d .turn;

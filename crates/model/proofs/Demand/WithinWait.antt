@@ -29,7 +29,7 @@ own-message : {s : List ℕ} {k j : ℕ} (n : ℕ) → OnSheet s k j → n ≡ r
 own-message {s} {k} n on e =
     ofNode-reading s k n .1 (omega (arith, sumTo-split (streamCount s) k (on .nodeFrom), on .streamFrom, on .streamTo))
 
--- The cycles of a listed wait are within the stream's deadline.
+-- The cycles of a listed wait are within the stream's deadline. (Of a turn's ticks, either those of messages or the slot are enough.)
 pub cycles-within : {s : List ℕ} {k j J wait : ℕ}
     → SheetFits s
     → OnSheet s k j
@@ -83,12 +83,13 @@ module _ {s log : List ℕ} {horizon turns k j wait J : ℕ} (r : Replay s log h
 
     -- A message that is due before the horizon, in at least J cycles, has begun: had it not, the next turn would start before the
     -- horizon.
-    pub has-begun : word (stateAt s log turns .begins) i ≡ notBegun → ⊥
+    has-begun : word (stateAt s log turns .begins) i ≡ notBegun → ⊥
     has-begun w =
         let late : releaseTick log i ≤ startOf s log turns = omega (arith, due .inTime, r .counted .ended) in
         let next = ranked-waits served message turns (le-refl turns) w late in
         omega (arith, due .inTime, r .counted .ended)
 
+    -- So it began in time.
     pub begun-in-time : BeganInReplay s log k j J turns i
     begun-in-time = ranked-began served message turns (le-refl turns) has-begun
 

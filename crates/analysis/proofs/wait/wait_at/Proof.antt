@@ -38,6 +38,7 @@ sub-result c = let p = c .before .before .before .before .pre in omega (arith, w
 cast-result : tie.Need-cast-result
 cast-result c = let p = c .before .before .before .before .pre in omega (arith, place-most (p .0) (p .1) (before (c .before)))
 
+-- (Bounds for messages and for slots, so that a wait counted in slots is refused for its value and not for its size.)
 mul-result-2 : tie.Need-mul-result-2
 mul-result-2 c =
     let p = c .before .before .before .before .before .pre in
