@@ -187,7 +187,9 @@ pub struct ListedWait {
     /// their least periods.
     pub wait: u32,
     /// J: the fewest full cycles whose turns take more messages than can have
-    /// come ahead of it by then.
+    /// come ahead of it by then. Each message is delivered at most
+    /// J × C − 1 + budget × TMS + TPR ticks after its release, under the same
+    /// premise, and that is at most its deadline.
     pub cycles: u32,
 }
 
