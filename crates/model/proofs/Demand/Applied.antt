@@ -16,7 +16,7 @@ use Rattle.model.specs.Sheet.{word, cycle, OnSheet, ticksOutside, counts
 use Rattle.model.specs.Analysis.{streamOf, streamsFrom, outranks, above, mostReleases, interference, waitFor, search, verdict, higherStreams, verdictOf}
 use Rattle.model.specs.Protocol.{KeepsPeriod, ofNode, queuedBefore, waiting, beginsFrom, serve, nextNode, nextBus, turn, start, stateAt, startOf, nodeOf, TurnsBefore, run, replayed}
 use Rattle.model.specs.Answers.{roomRefusal, tickBefore, releaseRefusal, logRefusal, horizonRefusal, unknownRefusal, verdictAnswer, lateRefusal, nodeLateRefusal, waitWord, bufferAfter, oneStreamAnswer, admitAnswer, admitBuffer, replayAnswer, stepped}
-use Rattle.model.specs.Demand.{StreamWait, StreamLate, AllJudged, messagesOf, BeginsWithin, NextTurn, PeriodsKept, Premises, DueBefore, WholeReplay}
+use Rattle.model.specs.Demand.{StreamWait, StreamLate, AllJudged, messagesOf, BeginsWithin, DeliveredBy, NextTurn, PeriodsKept, Premises, DueBefore, WholeReplay}
 use Rattle.model.specs.Bench.{sheetA, crowdedBy, logCrowded, logPeriodic}
 use Rattle.model.proofs.Protocol.Run.{turns-unique}
 use Rattle.model.proofs.Answers.Stepping.{inFront, stepping}
@@ -164,6 +164,16 @@ once-second (suc (suc (suc zero))) b s = last b (s .ordered) (s .inLog) (s .seco
     last (suc (suc (suc (suc (suc b))))) low high e = absurd (omega arith)
 once-second (suc (suc (suc (suc a)))) b s = absurd (omega (arith, s .ordered, s .inLog))
 
+-- The premises of demand 3 for stream 2, whose J is 2.
+second-premises : Premises A logPeriodic 1 2 33 2
+unfolding sheetA logPeriodic sum upTo cycle streamsFrom outranks above mostReleases interference waitFor search verdict verdictOf
+second-premises =
+    record {
+      onSheet = on-node-1 40 40 60 2 (omega arith) (omega arith);
+      listed = refl;
+      kept = record { itself = once-second; rankedAbove = λ i on e. rw (only-first i on e) apart };
+    }
+
 -- What demand 3 says of any words that the replay of the periodic log up to 57 wrote: of stream 2, whose J is 2, and of stream 1, whose
 -- second message is due a tick before the horizon.
 pub record Periodic (words : List ℕ) : Type 0 where
@@ -175,14 +185,7 @@ unfolding sheetA logPeriodic sum upTo cycle streamsFrom outranks above mostRelea
 periodic turns next words whole =
     record {
       second =
-          whole .withinWait 1 2 33 2
-          (record {
-            onSheet = on-node-1 40 40 60 2 (omega arith) (omega arith);
-            listed = refl;
-            kept = record { itself = once-second; rankedAbove = λ i on e. rw (only-first i on e) apart };
-          })
-          3
-          (record { inLog = omega arith; ofStream = refl; inTime = omega arith });
+          whole .withinWait 1 2 33 2 second-premises 3 (record { inLog = omega arith; ofStream = refl; inTime = omega arith });
       first =
           whole .withinWait 1 1 16 1
           (record {
@@ -193,6 +196,14 @@ periodic turns next words whole =
           4
           (record { inLog = omega arith; ofStream = refl; inTime = omega arith });
     }
+
+-- The promise of delivery where J is 2: its message, released at 1, is delivered by 61, its deadline, a tick before the horizon.
+pub second-delivered : (turns next : ℕ) (words : List ℕ)
+    → WholeReplay A logPeriodic 62 turns next words
+    → DeliveredBy A logPeriodic words 3 61
+unfolding sheetA logPeriodic sum upTo
+second-delivered turns next words whole =
+    whole .delivered 1 2 33 2 second-premises 3 (record { inLog = omega arith; ofStream = refl; inTime = omega arith })
 
 -- Demand 3 about these replays, with the numbers that they answer.
 pub crowded-replay : Crowded (0 ∷ notBegun ∷ 6 ∷ 11 ∷ 17 ∷ [])
