@@ -1,8 +1,12 @@
 //! Times the proved library beside the second program, both built for
 //! release, in one run: `bench admit`, `bench search`, `bench hardest`,
 //! `bench replay`, `bench write`. Each figure is the median of nine runs over
-//! the same inputs (`bench hardest` runs once); rooms are not cleared between
-//! runs.
+//! the same inputs (where the second program searches for J one by one, its
+//! own is one run); rooms are not cleared between runs. `bench slowest NODES
+//! SECONDS SEED` looks for sheets on which the proved search is slow.
+
+mod search;
+mod slowest;
 
 use std::hint::black_box;
 use std::process::ExitCode;
@@ -112,49 +116,6 @@ fn admit() {
         }
     });
     print_pair("admit, a sheet", sheets.len() as f64, proved, second);
-}
-
-/// One node with the shortest cycle, whose five fast streams nearly fill the
-/// budget, and `slow` streams below them: the search for J goes far.
-fn far_search(slow: usize) -> Vec<u32> {
-    let nearly_full = [3, 7, 43, 1807, 3_400_000];
-    let mut streams: Vec<(u32, u32)> = nearly_full.iter().map(|&p| (p, p)).collect();
-    streams.extend(vec![(1_000_000_000, 1_000_000_000); slow]);
-    sheet(1, 1, &[(1, streams)])
-}
-
-fn search() {
-    let words = far_search(1);
-    let answer = wistorvan::raw::one_stream(&words, 1, 6);
-    println!(
-        "five streams above: J {}, wait {}",
-        answer.third, answer.second
-    );
-    let proved = median(|| {
-        black_box(wistorvan::raw::one_stream(black_box(&words), 1, 6));
-    });
-    let second = median(|| {
-        black_box(peer::one_stream(black_box(&words), 1, 6));
-    });
-    print_pair("one stream", 1.0, proved, second);
-    println!(
-        "a try of J: proved {:.1} ns",
-        proved / f64::from(answer.third)
-    );
-}
-
-/// The longest search found, run once: fifteen streams above, and nearly as
-/// many tries as a deadline allows.
-fn hardest() {
-    let words = far_search(11);
-    let began = Instant::now();
-    let answer = wistorvan::raw::one_stream(&words, 1, 16);
-    println!(
-        "fifteen streams above: J {}, wait {}, {:.1} s",
-        answer.third,
-        answer.second,
-        began.elapsed().as_secs_f64()
-    );
 }
 
 /// Times one replay by both, and prints it for a turn of the second program.
@@ -367,15 +328,25 @@ fn write() {
     write_pair("sheet A", &tables_a);
 }
 
+/// The three numbers after `slowest`, or a few seconds for a sheet of one node.
+fn look() {
+    let number = |place, unset| {
+        let given = std::env::args().nth(place);
+        given.and_then(|text| text.parse().ok()).unwrap_or(unset)
+    };
+    slowest::slowest(number(2, 1) as u32, number(3, 10), number(4, 1));
+}
+
 fn main() -> ExitCode {
     match std::env::args().nth(1).as_deref() {
         Some("admit") => admit(),
-        Some("search") => search(),
-        Some("hardest") => hardest(),
+        Some("search") => search::search(),
+        Some("hardest") => search::hardest(),
+        Some("slowest") => look(),
         Some("replay") => replay(),
         Some("write") => write(),
         _ => {
-            eprintln!("usage: bench admit | search | hardest | replay | write");
+            eprintln!("usage: bench admit | search | hardest | slowest NODES SECONDS SEED | replay | write");
             return ExitCode::from(2);
         }
     }

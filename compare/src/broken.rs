@@ -1,7 +1,7 @@
 //! The proved library against variants of the second program that make the
 //! errors listed in document 01, go by a wrong rank, write a sheet wrongly,
-//! start a search at a wrong place, or judge by a wrong late test. Each of them
-//! has to differ somewhere.
+//! start a search at a wrong place, judge by a wrong late test, or jump wrongly
+//! in the search for J. Each of them has to differ somewhere.
 
 use peer::broken;
 use peer::generate::{case, tables_case, Case, TablesCase};
@@ -18,7 +18,7 @@ enum Entry {
     Step(Step),
 }
 
-const VARIANTS: [(&str, Entry); 25] = [
+const VARIANTS: [(&str, Entry); 29] = [
     (
         "1, releases counted by ceiling",
         Entry::Admit(broken::admit_by_ceiling),
@@ -118,6 +118,22 @@ const VARIANTS: [(&str, Entry); 25] = [
     (
         "25, a delivery at the deadline is late",
         Entry::Admit(broken::admit_late_at_the_deadline),
+    ),
+    (
+        "26, a jump one J too far",
+        Entry::Admit(broken::admit_jumping_too_far),
+    ),
+    (
+        "27, no hope by rates rounded up",
+        Entry::Admit(broken::admit_rounding_rates_up),
+    ),
+    (
+        "28, a jump to a J with every place taken",
+        Entry::Admit(broken::admit_with_every_place_taken),
+    ),
+    (
+        "29, a jump that counts fast streams twice",
+        Entry::Admit(broken::admit_counting_fast_twice),
     ),
 ];
 

@@ -13,9 +13,10 @@ use std::io;
 use std::process::ExitCode;
 
 use peer::generate::{case, named, named_tables, tables_case, Case, TablesCase};
+use peer::stats::{found_names, late_name};
 use programs::{Programs, CHANGES};
 use step::{compare_step, compare_steps};
-use tally::{Outcome, Tally, EXPECTED, FAR};
+use tally::{searches, Outcome, Tally, EXPECTED, FAR};
 use writer::{compare_tables, compare_written_again};
 
 const USAGE: &str = "usage: compare SEED COUNT (cases and tables 0 to COUNT - 1 and the named ones)
@@ -31,8 +32,8 @@ const USAGE: &str = "usage: compare SEED COUNT (cases and tables 0 to COUNT - 1 
 const PROGRAMS_EVERY: u64 = 100;
 const FAR_PROGRAMS: u64 = 400;
 
-/// So many generated cases must have all far numbers among them; fewer may
-/// leave them to the named cases.
+/// So many generated cases must have all far numbers and all long searches
+/// among them; fewer may leave them to the named cases.
 const FAR_CASES: u64 = 5_000;
 
 /// Runs an entry of the second program on a copy of the room.
@@ -80,8 +81,13 @@ fn compare_one_stream(tally: &mut Tally, name: &str, case: &Case) {
     let mine = proved(&[], |_| wistorvan::raw::one_stream(sheet, node, stream));
     let other = second(&[], |_| peer::one_stream(sheet, node, stream));
     tally.compare("one stream", name, case, &mine, &other);
-    if let (0, wait, _) = other.answer {
-        tally.reached("one stream", &[far::wait(&[wait])]);
+    match other.answer {
+        (0, wait, cycles) => {
+            tally.reached("one stream", &[far::wait(&[wait])]);
+            tally.searched("one stream", 0, found_names(cycles.into()));
+        }
+        (7, ..) => tally.searched("one stream", 7, late_name(sheet, node, stream)),
+        _ => {}
     }
 }
 
@@ -91,9 +97,16 @@ fn compare_admit(tally: &mut Tally, name: &str, case: &Case) -> bool {
     let other = second(&case.room, |room| peer::admit(&case.sheet, room));
     tally.compare("admit", name, case, &mine, &other);
     match other.answer {
-        (0, streams, _) => {
+        (0, streams, cycle) => {
             let waits = &other.left[..streams as usize];
+            if let Some(longest) = waits.iter().map(|wait| (wait + 1) / cycle).max() {
+                tally.searched("admit", 0, found_names(longest.into()));
+            }
             tally.reached("admit", &[far::wait(waits)])
+        }
+        (7, node, stream) => {
+            tally.searched("admit", 7, late_name(&case.sheet, node, stream));
+            false
         }
         _ => false,
     }
@@ -140,6 +153,7 @@ fn run_all(seed: u64, count: u64) -> io::Result<Tally> {
     // By the generated cases alone, where there are enough.
     if count >= FAR_CASES {
         tally.expect(&FAR);
+        tally.expect(&searches());
     }
     for (index, (name, case)) in named().iter().enumerate() {
         let name = format!("{name}: `compare {seed} {index} named`");
@@ -150,6 +164,7 @@ fn run_all(seed: u64, count: u64) -> io::Result<Tally> {
         compare_tables(&mut tally, &name, tables);
     }
     tally.expect(&FAR);
+    tally.expect(&searches());
     tally.expect(&EXPECTED);
     Ok(tally)
 }

@@ -3,9 +3,12 @@
 use std::collections::{BTreeMap, BTreeSet};
 use std::fmt::Debug;
 
+use peer::stats::{FOUND_NAMES, LATE_NAMES};
+
 use crate::far;
 
-/// An entry, the number it answered, and the kind of place or what was far.
+/// An entry, the number it answered, and the kind of place, what was far, or
+/// what the search for J came to.
 pub type Kind = (&'static str, u32, &'static str);
 
 /// The far numbers that a whole run must have met.
@@ -19,6 +22,17 @@ pub const FAR: [Kind; 8] = [
     ("replay program", 0, far::BEGIN),
     ("replay program", 0, far::TURNS),
 ];
+
+/// The long searches for J, and the reasons for which streams are late, that a
+/// whole run must have met with both entries that answer them.
+pub fn searches() -> Vec<Kind> {
+    let of = |entry| {
+        let found = FOUND_NAMES.map(|name| (entry, 0, name));
+        let late = LATE_NAMES.map(|name| (entry, 7, name));
+        found.into_iter().chain(late)
+    };
+    of("one stream").chain(of("admit")).collect()
+}
 
 /// The answers that a whole run must have met.
 pub const EXPECTED: [Kind; 71] = [
@@ -157,6 +171,18 @@ impl Tally {
             *self.answers.entry((entry, 0, what)).or_default() += 1;
         }
         far.iter().any(Option::is_some)
+    }
+
+    /// Counts what the search for J of an answer with this number came to.
+    pub fn searched(
+        &mut self,
+        entry: &'static str,
+        number: u32,
+        names: impl IntoIterator<Item = &'static str>,
+    ) {
+        for name in names {
+            *self.answers.entry((entry, number, name)).or_default() += 1;
+        }
     }
 
     /// All of these must have been met by now.

@@ -1,9 +1,11 @@
 //! The five errors that document 01 has seen in fitters' sheets, three wrong
-//! ranks, eight wrong writers, two wrong starting places and four wrong late
-//! tests, each made on purpose, so that a comparison can show that it catches
-//! them. All else is as in the good program.
+//! ranks, eight wrong writers, two wrong starting places, four wrong late tests
+//! and four wrong jumps, each made on purpose, so that a comparison can show
+//! that it catches them. All else is as in the good program, but for the search
+//! that the wrong jumps are made in.
 
 mod delivery;
+mod jumps;
 mod start;
 mod writer;
 
@@ -15,6 +17,10 @@ use crate::{admission, replay, success, Answer, NOT_BEGUN};
 pub use delivery::{
     admit_delivering_at_own_end, admit_delivering_before_the_slot,
     admit_delivering_behind_own_place, admit_late_at_the_deadline,
+};
+pub use jumps::{
+    admit_counting_fast_twice, admit_jumping_too_far, admit_rounding_rates_up,
+    admit_with_every_place_taken, one_stream_jumping,
 };
 pub use start::{replay_starting_late, step_after_last_begun};
 pub use writer::{

@@ -3,8 +3,8 @@
 //! alone, so that the proved program can be compared with it. It shares no code
 //! with that program, and keeps other accounts: running remainders in the
 //! search for J, one queue a stream in the replay, a sheet put together apart
-//! from the room in the writer. That J is tried from 1 up, as far as the
-//! deadline allows, is the same in both.
+//! from the room in the writer. J is tried one by one from 1 up, as far as the
+//! deadline allows: a search that leaves some out is measured against that.
 //!
 //! Every entry is total: whatever is handed in gets an answer, and a refusal
 //! changes no lent word.

@@ -1,17 +1,22 @@
 //! How generated cases spread over the answers and over their causes. The
 //! causes are read off the words here, apart from the code that refuses.
 
+mod edges;
 mod rank;
+mod search;
 mod tables;
 
-use std::collections::{BTreeMap, BTreeSet};
+use std::collections::BTreeMap;
 use std::fmt;
 
-use crate::admission::{delivery, last_try, least_cycles};
+use crate::admission::last_try;
 use crate::generate::{case, total_tries, Case, FAR_BEGIN, FAR_TURNS, FAR_WAIT};
 use crate::sheet::{Bus, LAST_TICK};
 use crate::{admit, check_sheet, one_stream, replay, step, Answer, NOT_BEGUN};
+use edges::{count_edges, edge};
+use search::{count_found, count_late};
 
+pub use search::{found_names, late_name, FOUND_NAMES, LATE_NAMES};
 pub use tables::gather_tables;
 
 /// Counts by name, one line each when written out.
@@ -150,48 +155,6 @@ fn count_sheet(figures: &mut Figures, case: &Case) {
     count_edges(figures, &case.sheet, answer);
 }
 
-const JUST_IN_TIME: &str = "just in time";
-const LATE_BY_ONE: &str = "late by one tick";
-
-/// Whether a stream is delivered just at its deadline or one tick after it,
-/// and after how many cycles.
-fn edge(bus: &Bus, stream: usize) -> Option<(&'static str, u64)> {
-    // A stream late by one takes one J more than is worth a try.
-    let cycles = least_cycles(bus, stream, last_try(bus, stream) + 1)?.cycles;
-    let deadline = u64::from(bus.streams()[stream].deadline);
-    match delivery(bus, stream, cycles) {
-        ticks if ticks == deadline => Some((JUST_IN_TIME, cycles)),
-        ticks if ticks == deadline + 1 => Some((LATE_BY_ONE, cycles)),
-        _ => None,
-    }
-}
-
-/// Streams at the edge of the late test, and sheets that have such.
-fn count_edges(figures: &mut Figures, sheet: &[u32], answer: Answer) {
-    let Ok(bus) = Bus::read(sheet) else { return };
-    let mut kinds = BTreeSet::new();
-    for stream in 0..bus.streams().len() {
-        let Some((kind, cycles)) = edge(&bus, stream) else {
-            continue;
-        };
-        let cycles = if cycles == 1 { "1" } else { "2 or more" };
-        let budget = match bus.nodes()[bus.node_of(stream)].budget {
-            1 => "1",
-            _ => "over 1",
-        };
-        figures.add(format!("stream {kind}, J {cycles}, budget {budget}"));
-        kinds.insert(format!("sheet with a stream {kind}"));
-        if answer.number == 0 {
-            kinds.insert(format!("sheet admitted with a stream {kind}"));
-        }
-        let place = bus.place(stream);
-        if (7, place.0, place.1) == (answer.number, answer.second, answer.third) {
-            kinds.insert(format!("sheet refused for a stream {kind}"));
-        }
-    }
-    kinds.into_iter().for_each(|kind| figures.add(kind));
-}
-
 /// Whether some search sums up more releases than 32 bits hold.
 fn demand_is_wide(sheet: &[u32]) -> bool {
     let Ok(bus) = Bus::read(sheet) else {
@@ -237,6 +200,11 @@ fn count_question(figures: &mut Figures, case: &Case) {
             figures.total("one stream 0, J 2 or more", u64::from(answer.third >= 2));
             let far = answer.second > FAR_WAIT;
             figures.total("one stream 0, a wait over 10^8", u64::from(far));
+            count_found(figures, &case.sheet, case.node, u64::from(answer.third));
+        }
+        7 => {
+            figures.add("one stream 7".to_string());
+            count_late(figures, &case.sheet, case.node, case.stream);
         }
         8 => figures.add(format!("one stream 8 {}", question_cause(case))),
         number => figures.add(format!("one stream {number}")),

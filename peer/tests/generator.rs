@@ -180,11 +180,6 @@ fn refusals_leave_generated_rooms_and_records() {
     assert!(refused > 1_000, "{refused}");
 }
 
-fn find(name: &str) -> peer::generate::Case {
-    let mut all = named().into_iter();
-    all.find(|case| case.0 == name).expect(name).1
-}
-
 #[test]
 fn named_cases_have_names_of_their_own() {
     let names: std::collections::BTreeSet<_> = named().iter().map(|case| case.0).collect();
@@ -194,7 +189,7 @@ fn named_cases_have_names_of_their_own() {
 
 #[test]
 fn named_long_searches() {
-    let found = find("found after millions of tries");
+    let found = named_case("found after millions of tries");
     let given = one_stream(&found.sheet, found.node, found.stream);
     assert_eq!(given.number, 0);
     assert!(given.third > 1_000_000, "{given:?}");
@@ -204,7 +199,7 @@ fn named_long_searches() {
         "demand passes 32 bits, first stream",
         "both late, the first of lower priority",
     ] {
-        let late = find(name);
+        let late = named_case(name);
         assert_eq!(
             one_stream(&late.sheet, late.node, late.stream),
             answer(7, late.node, late.stream),
@@ -216,7 +211,7 @@ fn named_long_searches() {
 #[test]
 fn named_ranks() {
     let begins = |name: &str| {
-        let mut case = find(name);
+        let mut case = named_case(name);
         replay(&case.sheet, &case.log, case.horizon, &mut case.room);
         case.room[..case.log.len() / 2].to_vec()
     };
@@ -253,7 +248,7 @@ fn named_deliveries() {
         ("the longest turns", (2_869_999, 1)),
         ("near the last tick", (31_623 * 31_622 - 1, 31_623)),
     ] {
-        let case = find(&format!("{name}, just in time"));
+        let case = named_case(&format!("{name}, just in time"));
         let given = one_stream(&case.sheet, case.node, case.stream);
         assert_eq!(given, answer(0, listed.0, listed.1), "{name}");
     }
@@ -264,7 +259,7 @@ fn named_deliveries() {
         ("the longest turns", (1, 1)),
         ("near the last tick", (1, 1)),
     ] {
-        let mut case = find(&format!("{name}, late by one"));
+        let mut case = named_case(&format!("{name}, late by one"));
         let given = one_stream(&case.sheet, case.node, case.stream);
         assert_eq!(given, answer(7, case.node, case.stream), "{name}");
         let given = admit(&case.sheet, &mut case.room);
@@ -274,11 +269,11 @@ fn named_deliveries() {
 
 #[test]
 fn named_far_numbers() {
-    let wait = find("a wait of nine digits");
+    let wait = named_case("a wait of nine digits");
     assert_eq!(one_stream(&wait.sheet, 1, 1), answer(0, 334_099_999, 130));
     assert_eq!(admit(&wait.sheet, &mut [0; 2]), answer(0, 2, 2_570_000));
     let replayed = |name: &str| {
-        let mut case = find(name);
+        let mut case = named_case(name);
         let given = replay(&case.sheet, &case.log, case.horizon, &mut case.room);
         (given, case.room[..case.log.len() / 2].to_vec())
     };
@@ -298,7 +293,7 @@ fn named_far_numbers() {
 #[cfg(not(debug_assertions))]
 fn named_searches_up_to_a_far_deadline() {
     for name in ["a J far past the deadline", "no J at all"] {
-        let late = find(name);
+        let late = named_case(name);
         let given = one_stream(&late.sheet, late.node, late.stream);
         assert_eq!(given, answer(7, late.node, late.stream), "{name}");
     }
@@ -307,7 +302,7 @@ fn named_searches_up_to_a_far_deadline() {
 #[test]
 fn named_replays() {
     let replayed = |name: &str| {
-        let mut case = find(name);
+        let mut case = named_case(name);
         replay(&case.sheet, &case.log, case.horizon, &mut case.room)
     };
     assert_eq!(

@@ -1,4 +1,4 @@
--- A valid sheet gives what specs/InRange has: the body of a node is all there, and what the search for J is asked with is in range.
+-- A valid sheet gives what the contracts ask for: the body of a node is all there, and what the search for J is asked with is in range.
 -- Assumes nothing.
 use Prim.Native.Nat.{ℕ, zero, suc, _+_, _≤_, _<_}
 use native.Mathlib.Nat.{le-refl, le-trans, le-of-suc-le-suc, mul-le-mul}
@@ -12,10 +12,11 @@ use Rattle.model.specs.Limits.{maxTime}
 use Rattle.model.specs.Sheet.{nodes, place, streamCount, period, deadline, OnSheet}
 use Rattle.model.specs.Analysis.{streamOf, streamsFrom, streamsOf, outranks, above, timingOf}
 use Rattle.model.proofs.Sheet.ValidSheet.{SheetFits}
-use Rattle.model.proofs.Sheet.NodeSums.{cycle-least}
+use Rattle.model.proofs.Sheet.NodeSums.{cycle-least, cycle-most}
 use Rattle.model.proofs.Analysis.NodeStreams.{streams-length, above-length}
 use Rattle.analysis.specs.Periods.{periodsOf}
-use Rattle.analysis.specs.InRange.{Body, Divisors, Ranges}
+use Rattle.wait.specs.InRange.{Divisors, Ranges}
+use Rattle.analysis.specs.Body.{Body}
 
 -- The body of a node has no more streams than a node may have.
 pub body-there : (s : List ℕ) (k : ℕ) {at count : ℕ}
@@ -75,6 +76,8 @@ pub node-ranges : (s : List ℕ) (k : ℕ) → SheetFits s → 1 ≤ k → k ≤
 node-ranges s k fits low high =
     record {
       cycleFrom = cycle-least s fits;
+      cycleTo = cycle-most s fits;
+      budgetFrom = fits .rows k low high .budgetFrom;
       budgetTo = fits .rows k low high .budgetTo;
       messageTo = fits .header .messageTo;
       slotTo = fits .header .slotTo;

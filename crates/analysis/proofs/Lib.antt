@@ -3,4 +3,3 @@ pub mod Filling
 pub mod InRange
 pub mod Periods
 pub mod Above
-pub mod WaitBounds

@@ -2,24 +2,19 @@
 use Prim.Native.Nat.{ℕ}
 use mathlib.Core.Path.{_≡_, ap, _∙_}
 use mathlib.Core.List.{List}
-use Rattle.theory.proofs.Sums.{sum-mono, sum-map}
+use Rattle.theory.proofs.Sums.{sum-map}
 use Rattle.model.specs.declared.Stream.{Stream}
 use Rattle.model.specs.declared.Timing.{Timing}
 use Rattle.model.specs.declared.Verdict.{Verdict}
 use Rattle.model.specs.Sheet.{deadline}
 use Rattle.model.specs.Analysis.{mostReleases, interference, verdict, streamOf, higherStreams, timingOf, verdictOf}
-use Rattle.model.proofs.Analysis.Interference.{releases-grow}
-use Rattle.model.proofs.Analysis.Wait.{Grows}
-use Rattle.analysis.specs.Periods.{periodsOf, higherPeriods, interferenceBy}
+use Rattle.wait.specs.Periods.{interferenceBy}
+use Rattle.analysis.specs.Periods.{periodsOf, higherPeriods}
 
 -- Interference looks at the least periods.
 interference-periods : (ys : List Stream) → interferenceBy (periodsOf ys) ≡ interference ys
 unfolding interference
 interference-periods ys = λ i w. sum-map (λ p. mostReleases p w) (λ (y : Stream). y .period) ys i
-
--- It grows with the window.
-pub by-grows : (periods : List ℕ) → Grows (interferenceBy periods)
-by-grows periods v w h = sum-mono (λ p. mostReleases p v) (λ p. mostReleases p w) periods (λ p m. releases-grow p h)
 
 -- The verdict by the least periods of those ranked above a stream, and the sheet's numbers, is that on the stream.
 pub verdict-periods : (s : List ℕ) (k j : ℕ) {periods : List ℕ} {t : Timing} {due : ℕ} {v : Verdict}

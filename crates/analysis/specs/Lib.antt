@@ -1,3 +1,3 @@
 -- What the contracts of the analysis cite beside document 01's definitions.
 pub mod Periods
-pub mod InRange
+pub mod Body

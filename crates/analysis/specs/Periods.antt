@@ -1,9 +1,8 @@
 -- What the search for J looks at of the streams above: their least periods. Assumes nothing.
 use Prim.Native.Nat.{ℕ}
 use mathlib.Core.List.{List, map}
-use Rattle.theory.specs.Sum.{sum}
 use Rattle.model.specs.declared.Stream.{Stream}
-use Rattle.model.specs.Analysis.{mostReleases, streamsOf, above}
+use Rattle.model.specs.Analysis.{streamsOf, above}
 
 -- The least periods of streams.
 abbrev pub periodsOf : List Stream → List ℕ
@@ -12,7 +11,3 @@ periodsOf ys = map (λ y. y .period) ys
 -- The least periods of node k's streams that are ranked above one.
 abbrev pub higherPeriods : List ℕ → ℕ → Stream → List ℕ
 higherPeriods s k x = periodsOf (above x (streamsOf s k))
-
--- Interference, "H", of streams with these least periods.
-abbrev pub interferenceBy : List ℕ → ℕ → ℕ
-interferenceBy periods w = sum (λ p. mostReleases p w) periods

@@ -5,7 +5,7 @@ ghost use lib.ListN.{length, take};
 ghost use Rattle.model.specs.Limits.{maxStreams};
 ghost use Rattle.model.specs.Sheet.{nodes, Valid};
 ghost use Rattle.analysis.specs.Periods.{higherPeriods};
-ghost use Rattle.analysis.specs.InRange.{Body};
+ghost use Rattle.analysis.specs.Body.{Body};
 use layout::place_in_body;
 use layout::place_of;
 use layout::stream_count;

@@ -6,7 +6,7 @@ ghost use Rattle.model.specs.Refusal.{success, _orElse_, firstOf};
 ghost use Rattle.model.specs.Sheet.{nodes, cycle as fullCycle, streamCount, totalStreams, Valid};
 ghost use Rattle.model.specs.Answers.{nodeLateRefusal, waitsFrom, listedWaits, bufferAfter};
 use crate::cycle::cycle_of;
-use crate::wait::verdict_on;
+use crate::verdict::verdict_on;
 use layout::stream_count;
 use layout::wide;
 use layout::word_at;

@@ -17,11 +17,11 @@ use model::Verdict;
 use range::is_outside;
 use range::refuse_if;
 use sheet::check_sheet;
-use wait::verdict_on;
+use verdict::verdict_on;
 
 mod cycle; // cycle.rt: the full cycle
 mod higher; // higher.rt: who is ranked above a stream
-mod wait; // wait.rt: the search for J, and the verdict on one stream
+mod verdict; // verdict.rt: the verdict on one stream
 mod judge; // judge.rt: the verdicts on all streams
 
 // A node or a stream of it that the sheet has not.

@@ -4,5 +4,6 @@ pub mod NodeStreams
 pub mod Interference
 pub mod Wait
 pub mod Search
+pub mod Jump
 pub mod Searching
 pub mod StreamVerdict

@@ -12,17 +12,17 @@ use crate::sheet::{LAST_TICK, MOST_STREAMS_A_NODE};
 const WHOLE: u64 = 1 << 32;
 
 /// A node that is filled from the highest rank down, with each stream in time.
-struct Ladder {
+pub(super) struct Ladder {
     cycle: u64,
     budget: u64,
     /// A turn that takes the whole budget.
     turn: u64,
     /// Period and deadline; neither falls from one to the next.
-    streams: Vec<(u64, u64)>,
+    pub streams: Vec<(u64, u64)>,
 }
 
 impl Ladder {
-    fn new(plan: &Plan, node: usize) -> Ladder {
+    pub fn new(plan: &Plan, node: usize) -> Ladder {
         let budget = u64::from(plan.nodes[node].budget);
         Ladder {
             cycle: plan.cycle(),
@@ -55,7 +55,7 @@ impl Ladder {
     /// more has to wait for about so many cycles, or until there are `most`.
     /// If a stream is in time with J, 1 / J of a place or more was left and its
     /// period takes less, so that there is always some left for the next.
-    fn fill(&mut self, random: &mut Random, wanted: u64, most: usize) {
+    pub fn fill(&mut self, random: &mut Random, wanted: u64, most: usize) {
         while self.streams.len() < most {
             let spare = self.free().saturating_sub(WHOLE / wanted);
             if spare == 0 {

@@ -3,9 +3,12 @@
 
 mod deadlines;
 mod faults;
+mod full;
+mod loads;
 mod logs;
 mod long;
 mod named;
+mod named_full;
 mod named_tables;
 mod random;
 mod sheets;
@@ -60,6 +63,7 @@ pub fn case(seed: u64, index: u64) -> Case {
         mut sheet,
         tries,
         sharp,
+        asked,
     } = valid_sheet(random);
     damage_sheet(random, &mut sheet);
     limit_tries(&mut sheet, tries);
@@ -69,7 +73,7 @@ pub fn case(seed: u64, index: u64) -> Case {
     damage_log(random, &mut log, traffic.streams);
     let releases = log.len().div_ceil(2);
     let horizon = horizon(random, &traffic);
-    let (node, stream) = question(random, &traffic);
+    let (node, stream) = question(random, &traffic, asked);
     let record = record(random, &traffic, &log);
     let room = room(random, traffic.streams as usize, releases);
     let step_room = step_room(random, releases);
@@ -160,13 +164,15 @@ fn lower_of_two(random: &mut Random, bus: &Bus) -> Option<usize> {
     Some(std::cmp::max_by_key(one, other, |&s| bus.priority(s)))
 }
 
-/// Mostly a stream that there is, and often the one with a deadline at the edge.
-fn question(random: &mut Random, traffic: &Traffic) -> (u32, u32) {
+/// Mostly a stream that there is, and often the one that the sheet was made for.
+fn question(random: &mut Random, traffic: &Traffic, asked: Option<usize>) -> (u32, u32) {
     let odd = [0, 1, 2, 16, 17, 18, 4_096, u32::MAX - 1, u32::MAX];
+    // What was damaged may have lost the stream.
+    let asked = asked.filter(|&stream| stream < traffic.streams as usize);
     let asked = traffic.bus.and_then(|bus| {
         let stream = lower_of_two(random, bus)?;
-        let sharp = traffic.sharp.filter(|_| random.percent(60));
-        Some((bus, sharp.unwrap_or(stream)))
+        let asked = asked.filter(|_| random.percent(70));
+        Some((bus, asked.unwrap_or(stream)))
     });
     let Some((bus, stream)) = asked else {
         return (random.pick(&odd), random.pick(&odd));

@@ -1,12 +1,13 @@
 //! Named cases: the far ends of every range, both sides of the late test, and a
 //! few that go beyond the limits which the generated ones keep to.
 
+use super::named_full::full_nodes;
 use super::sheets::{NodePlan, Plan};
 use super::Case;
 use crate::sheet::LAST_TICK;
 use crate::{Record, NOT_BEGUN};
 
-type Named = (&'static str, Case);
+pub(super) type Named = (&'static str, Case);
 
 /// Two nodes, three streams, a cycle of 17 ticks.
 const SMALL: [u32; 15] = [2, 5, 1, 9, 2, 1, 13, 1, 2, 40, 40, 60, 60, 30, 30];
@@ -20,7 +21,7 @@ fn fresh() -> Record {
 }
 
 /// Rooms are long enough for whatever the sheet and log hold.
-fn plain(sheet: Vec<u32>, log: Vec<u32>, horizon: u32) -> Case {
+pub(super) fn plain(sheet: Vec<u32>, log: Vec<u32>, horizon: u32) -> Case {
     let words = 256.max(log.len().div_ceil(2));
     Case {
         sheet,
@@ -34,13 +35,13 @@ fn plain(sheet: Vec<u32>, log: Vec<u32>, horizon: u32) -> Case {
     }
 }
 
-fn asking(mut case: Case, node: u32, stream: u32) -> Case {
+pub(super) fn asking(mut case: Case, node: u32, stream: u32) -> Case {
     case.node = node;
     case.stream = stream;
     case
 }
 
-fn one_node(message: u32, slot: u32, budget: u32, streams: &[(u32, u32)]) -> Vec<u32> {
+pub(super) fn one_node(message: u32, slot: u32, budget: u32, streams: &[(u32, u32)]) -> Vec<u32> {
     let streams = streams.to_vec();
     let nodes = vec![NodePlan { budget, streams }];
     Plan {
@@ -367,6 +368,7 @@ pub fn named() -> Vec<Named> {
         out_of_range(),
         ranks(),
         deliveries(),
+        full_nodes(),
     ]
     .concat()
 }

@@ -1,6 +1,7 @@
 //! Valid sheets of many kinds.
 
 use super::deadlines::{meet_deadlines, sharpen_deadline};
+use super::full::full_sheet;
 use super::long::{fill_long_search, fill_long_wait};
 use super::random::Random;
 use super::MOST_TRIES;
@@ -242,13 +243,15 @@ pub(super) struct Valid {
     pub tries: u64,
     /// The stream that has a deadline at the edge.
     pub sharp: Option<usize>,
+    /// The stream to ask about.
+    pub asked: Option<usize>,
 }
 
 pub(super) fn valid_sheet(random: &mut Random) -> Valid {
     let mut plan = shape(random);
     // Few of the others are worth a long search for a stream that is late.
     let mut tries = [1_000, 10_000, MOST_TRIES][random.weighted(&[5, 2, 1])];
-    match random.weighted(&[40, 12, 13, 8, 12, 2, 10, 2, 3]) {
+    match random.weighted(&[40, 12, 13, 8, 12, 2, 10, 2, 3, 15]) {
         0 => fill_roomy(&mut plan, random),
         1 => fill_tied(&mut plan, random),
         2 => fill_tight(&mut plan, random),
@@ -263,6 +266,7 @@ pub(super) fn valid_sheet(random: &mut Random) -> Valid {
             tries = MOST_TRIES;
         }
         8 => fill_slow(&mut plan, random),
+        9 => return full_sheet(plan, random),
         _ => {
             fill_overload(&mut plan, random);
             tries = MOST_TRIES;
@@ -277,5 +281,6 @@ pub(super) fn valid_sheet(random: &mut Random) -> Valid {
         sheet,
         tries,
         sharp,
+        asked: sharp,
     }
 }

@@ -3,7 +3,7 @@
 
 use std::fmt::Debug;
 
-use peer::generate::{case, named_tables, Case, TablesCase};
+use peer::generate::{case, named, named_tables, Case, TablesCase};
 use peer::stats::Figures;
 use peer::{admit, one_stream, replay, write_sheet, Answer, Tables};
 
@@ -214,6 +214,12 @@ pub fn written_by(writer: Writer, case: &TablesCase) -> (Answer, Vec<u32>) {
     let mut room = case.room.clone();
     let given = writer(&case.tables, &mut room);
     (given, room)
+}
+
+/// The named case that has this name.
+pub fn named_case(name: &str) -> Case {
+    let mut all = named().into_iter();
+    all.find(|case| case.0 == name).expect(name).1
 }
 
 /// The named tables that have this name.

@@ -25,19 +25,19 @@ late-not-listed late listed = let z : _≡_ {A = ℕ} 0 1 = cc in omega arith
 
 module _ (H : ℕ → ℕ) (t : Timing) where
   -- The search ends at a number that suffices.
-  pub search-found : (tries from : ℕ) → Suffices H t from → search H t (suc tries) from ≡ Listed (waitFor H t from) from
+  search-found : (tries from : ℕ) → Suffices H t from → search H t (suc tries) from ≡ Listed (waitFor H t from) from
   unfolding search
   search-found tries from enough = rw (lt-ltb _ _ enough, search)
 
   -- Where a number does not suffice, it goes on with the next.
-  pub search-on : (tries from : ℕ) → (Suffices H t from → ⊥) → search H t (suc tries) from ≡ search H t tries (suc from)
+  search-on : (tries from : ℕ) → (Suffices H t from → ⊥) → search H t (suc tries) from ≡ search H t tries (suc from)
   unfolding search
   search-on tries from short =
       let filled : from * t .budget ≤ H (from * t .cycle - 1) = omega arith in
       rw (le-ltb _ _ filled, search)
 
   -- With no try left the verdict is late.
-  pub search-end : (from : ℕ) → search H t zero from ≡ Late
+  search-end : (from : ℕ) → search H t zero from ≡ Late
   unfolding search
   search-end from = refl
 

@@ -1,0 +1,36 @@
+// Interference: what the streams above can release in a window.
+ghost use mathlib.Core.Path.{_≡_};
+ghost use Prim.Native.Nat.{_^_, _≤_, _<_};
+ghost use Rattle.model.specs.Limits.{maxTime};
+ghost use Rattle.model.specs.Analysis.{mostReleases};
+ghost use Rattle.wait.specs.Periods.{interferenceBy};
+ghost use Rattle.wait.specs.InRange.{Divisors};
+
+// A word as a longer number.
+pub fn long(x: u32) -> u64
+    ensures { λ r. ⌜ (r ≡ x) × (r < 2 ^ 32) ⌝ }
+{
+    x as u64
+}
+
+// The most messages that a stream of that least period can release in a window of w + 1 ticks.
+pub fn most_releases(period: u32, w: u32) -> u32
+    requires { ⌜ (1 ≤ period) × (w ≤ maxTime) ⌝ }
+    ensures { λ r. ⌜ r ≡ mostReleases period w ⌝ }
+{
+    1 + w / period
+}
+
+// Interference, "H", of streams with these least periods, in a window of w + 1 ticks. It passes 32 bits, and no term of it does.
+pub fn interference_of(periods: &[u32], w: u32) -> u64
+    requires { ⌜ Divisors (now periods) × (w ≤ maxTime) ⌝ }
+    ensures { λ r. ⌜ r ≡ interferenceBy (now (periods .entry)) w ⌝ }
+{
+    let mut sum: u64 = 0;
+    let mut i: usize = 0;
+    while i < periods.len() {
+        sum += long(most_releases(periods[i], w));
+        i += 1;
+    }
+    sum
+}
