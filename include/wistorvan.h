@@ -19,14 +19,15 @@ extern "C" {
 /* The word of a release that has not begun. */
 #define WISTORVAN_NOT_BEGUN UINT32_C(4294967295)
 
-/* The most streams of a sheet and releases of a log, and the words of the longest sheet: rooms of so many words are always long
-   enough. */
+/* The most nodes and streams of a sheet and releases of a log, and the words of the longest sheet: rooms of so many words are
+   always long enough. */
+#define WISTORVAN_MAX_NODES 16
 #define WISTORVAN_MAX_STREAMS 256
 #define WISTORVAN_MAX_RELEASES 4096
 #define WISTORVAN_LONGEST_SHEET 563
 
 /* The first number of an answer, by name: success, or what is refused. Of all refusals that apply, the first in the order that
-   stands at each function is given. 11 to 15 are kept for later ones, so expect numbers that have no name here yet. */
+   stands at each function is given. 12 to 15 are kept for later ones, so expect numbers that have no name here yet. */
 enum wistorvan_number {
     /* Success. */
     WISTORVAN_OK = 0,
@@ -44,8 +45,8 @@ enum wistorvan_number {
     /* A period is not 1 to 1,000,000,000 or a deadline not 1 to its period, on the sheet or in the tables (write_sheet), first in
        sheet order. Place: node, stream. */
     WISTORVAN_BAD_STREAM = 5,
-    /* The room is shorter than one word a stream (admit) or a release (replay, step), or than the sheet (write_sheet).
-       Place: 0, 0. */
+    /* The room is shorter than one word a stream (admit) or a release (replay, step), than the sheet (write_sheet), or than
+       sixteen words, however few the nodes are (find_budgets). Place: 0, 0. */
     WISTORVAN_ROOM_TOO_SHORT = 6,
     /* A stream is late: a message of it could be delivered after its deadline (delivery is when its turn's protocol slot ends).
        The first in sheet order (admit) or the asked one (one_stream). Place: node, stream. */
@@ -57,6 +58,9 @@ enum wistorvan_number {
     WISTORVAN_BAD_LOG = 9,
     /* The horizon is over 1,000,000,000. Place: 0, 0. */
     WISTORVAN_HORIZON_TOO_LARGE = 10,
+    /* No budgets of 1 to 16 make every stream in time (find_budgets). The node has a late stream and 16 already, in the earliest
+       round with such a node, and is the first of them. Place: node, 0. */
+    WISTORVAN_NO_BUDGETS = 11,
     /* The record's tick or turns are over 1,000,000,000, or its node is not 1 to n. Place: 0, 0. */
     WISTORVAN_BAD_BUS = 16
 };
@@ -104,6 +108,12 @@ struct wistorvan_answer wistorvan_write_sheet(uint32_t message_ticks, uint32_t s
                                               const uint32_t *periods, size_t periods_words,
                                               const uint32_t *deadlines, size_t deadlines_words,
                                               uint32_t *room, size_t room_words);
+
+/* The smallest budgets with which no stream is late: their sum and the full cycle with them; the budgets, node by node and 0 past
+   the last node, in the first sixteen words of the room. No node has less in any other budgets that work. The search starts with
+   1 everywhere, and each round gives one more to every node with a late stream; the sheet's own budgets are checked and not used.
+   Refusals 1 to 5, 6, 11. */
+struct wistorvan_answer wistorvan_find_budgets(const uint32_t *sheet, size_t sheet_words, uint32_t *room, size_t room_words);
 
 #ifdef __cplusplus
 }

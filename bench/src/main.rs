@@ -1,10 +1,12 @@
 //! Times the proved library beside the second program, both built for
 //! release, in one run: `bench admit`, `bench search`, `bench hardest`,
-//! `bench replay`, `bench write`. Each figure is the median of nine runs over
-//! the same inputs (where the second program searches for J one by one, its
-//! own is one run); rooms are not cleared between runs. `bench slowest NODES
-//! SECONDS SEED` looks for sheets on which the proved search is slow.
+//! `bench replay`, `bench write`, `bench budgets`. Each figure is the median of
+//! nine runs over the same inputs (`bench search` and `bench hardest` time the
+//! second program, which searches for J one by one, in one run); rooms are not
+//! cleared between runs. `bench slowest NODES SECONDS SEED` looks for sheets on
+//! which the proved search is slow.
 
+mod budgets;
 mod search;
 mod slowest;
 
@@ -345,8 +347,11 @@ fn main() -> ExitCode {
         Some("slowest") => look(),
         Some("replay") => replay(),
         Some("write") => write(),
+        Some("budgets") => budgets::budgets(),
         _ => {
-            eprintln!("usage: bench admit | search | hardest | slowest NODES SECONDS SEED | replay | write");
+            eprintln!(
+                "usage: bench admit | search | hardest | slowest NODES SECONDS SEED | replay | write | budgets"
+            );
             return ExitCode::from(2);
         }
     }

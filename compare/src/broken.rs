@@ -1,11 +1,13 @@
 //! The proved library against variants of the second program that make the
 //! errors listed in document 01, go by a wrong rank, write a sheet wrongly,
-//! start a search at a wrong place, judge by a wrong late test, or jump wrongly
-//! in the search for J. Each of them has to differ somewhere.
+//! start a search at a wrong place, judge by a wrong late test, jump wrongly in
+//! the search for J, or search wrongly for budgets. Each of them has to differ
+//! somewhere.
 
 use peer::broken;
-use peer::generate::{case, tables_case, Case, TablesCase};
+use peer::generate::{budgets_case, case, tables_case, BudgetsCase, Case, TablesCase};
 
+use crate::budgets::{found_by_proved, found_by_second, Find};
 use crate::step::{stepped_by_proved, stepped_by_second, Step};
 use crate::tally::Outcome;
 use crate::writer::{written_by_proved, written_by_second, Writer};
@@ -16,9 +18,10 @@ enum Entry {
     Replay(fn(&[u32], &[u32], u32, &mut [u32]) -> peer::Answer),
     Write(Writer),
     Step(Step),
+    Find(Find),
 }
 
-const VARIANTS: [(&str, Entry); 29] = [
+const VARIANTS: [(&str, Entry); 39] = [
     (
         "1, releases counted by ceiling",
         Entry::Admit(broken::admit_by_ceiling),
@@ -135,21 +138,77 @@ const VARIANTS: [(&str, Entry); 29] = [
         "29, a jump that counts fast streams twice",
         Entry::Admit(broken::admit_counting_fast_twice),
     ),
+    (
+        "30, one node a round gets more",
+        Entry::Find(broken::find_one_a_round),
+    ),
+    (
+        "31, a round judged by the row that it raises",
+        Entry::Find(broken::find_by_the_new_row),
+    ),
+    (
+        "32, rounds from the sheet's own budgets",
+        Entry::Find(broken::find_from_own_budgets),
+    ),
+    (
+        "33, budgets up to 15 only",
+        Entry::Find(broken::find_to_fifteen),
+    ),
+    (
+        "34, refusal 11 at a node that is not late",
+        Entry::Find(broken::find_naming_any_at_sixteen),
+    ),
+    (
+        "35, refusal 11 at a node below 16",
+        Entry::Find(broken::find_naming_any_late),
+    ),
+    (
+        "36, the cycle of the sheet's own budgets",
+        Entry::Find(broken::find_with_own_cycle),
+    ),
+    (
+        "37, a row without the words past the nodes",
+        Entry::Find(broken::find_writing_nodes_only),
+    ),
+    (
+        "38, a word a node is room enough",
+        Entry::Find(broken::find_in_a_short_room),
+    ),
+    (
+        "39, refusal 11 before refusal 6",
+        Entry::Find(broken::find_before_the_room),
+    ),
 ];
 
+/// A case of each kind.
+struct Cases {
+    case: Case,
+    tables: TablesCase,
+    budgets: BudgetsCase,
+}
+
+impl Cases {
+    fn new(seed: u64, index: u64) -> Cases {
+        Cases {
+            case: case(seed, index),
+            tables: tables_case(seed, index),
+            budgets: budgets_case(seed, index),
+        }
+    }
+}
+
 /// For each variant, what the library and the variant give if they differ.
-fn differences(
-    case: &Case,
-    tables_case: &TablesCase,
-) -> [Option<(Outcome, Outcome)>; VARIANTS.len()] {
+fn differences(cases: &Cases) -> [Option<(Outcome, Outcome)>; VARIANTS.len()] {
+    let case = &cases.case;
     let (sheet, log, horizon) = (&case.sheet, &case.log, case.horizon);
-    let TablesCase { tables, room } = tables_case;
+    let TablesCase { tables, room } = &cases.tables;
     let admit = proved(&case.room, |room| wistorvan::raw::admit(sheet, room));
     let replay = proved(&case.room, |room| {
         wistorvan::raw::replay(sheet, log, horizon, room)
     });
     let write = written_by_proved(tables, room);
     let step = stepped_by_proved(case);
+    let find = found_by_proved(&cases.budgets);
     VARIANTS.each_ref().map(|(_, entry)| {
         let (good, bad) = match entry {
             Entry::Admit(entry) => (&admit, second(&case.room, |room| entry(sheet, room))),
@@ -159,6 +218,7 @@ fn differences(
             ),
             Entry::Write(entry) => (&write, written_by_second(*entry, tables, room)),
             Entry::Step(entry) => (&step, stepped_by_second(*entry, case)),
+            Entry::Find(entry) => (&find, found_by_second(*entry, &cases.budgets)),
         };
         (*good != bad).then(|| (good.clone(), bad))
     })
@@ -168,7 +228,7 @@ fn differences(
 pub fn run(seed: u64, count: u64) -> bool {
     let mut caught = [(0u64, None); VARIANTS.len()];
     for index in 0..count {
-        let found = differences(&case(seed, index), &tables_case(seed, index));
+        let found = differences(&Cases::new(seed, index));
         for ((times, first), _) in caught.iter_mut().zip(found).filter(|(_, it)| it.is_some()) {
             *times += 1;
             first.get_or_insert(index);
@@ -186,10 +246,10 @@ pub fn run(seed: u64, count: u64) -> bool {
     caught.iter().all(|(times, _)| *times > 0)
 }
 
-/// Shows one case and its tables again; whether any variant is caught on them.
+/// Shows one case of each kind again; whether any variant is caught on them.
 pub fn one(seed: u64, index: u64) -> bool {
-    let (case, tables) = (case(seed, index), tables_case(seed, index));
-    let found = differences(&case, &tables);
+    let cases = Cases::new(seed, index);
+    let found = differences(&cases);
     for ((error, _), difference) in VARIANTS.iter().zip(&found) {
         if let Some((good, bad)) = difference {
             println!("error {error}: differs");
@@ -197,7 +257,8 @@ pub fn one(seed: u64, index: u64) -> bool {
             println!("  broken {bad:?}");
         }
     }
-    println!("on {case:?}");
-    println!("and {tables:?}");
+    println!("on {:?}", cases.case);
+    println!("and {:?}", cases.tables);
+    println!("and {:?}", cases.budgets);
     found.iter().any(Option::is_some)
 }

@@ -3,6 +3,7 @@
 //! broken variants of the second program.
 
 mod broken;
+mod budgets;
 mod far;
 mod programs;
 mod step;
@@ -12,19 +13,23 @@ mod writer;
 use std::io;
 use std::process::ExitCode;
 
-use peer::generate::{case, named, named_tables, tables_case, Case, TablesCase};
+use budgets::compare_budgets;
+use peer::generate::{budgets_case, case, tables_case, BudgetsCase, Case, TablesCase};
+use peer::generate::{named, named_budgets, named_tables};
 use peer::stats::{found_names, late_name};
 use programs::{Programs, CHANGES};
 use step::{compare_step, compare_steps};
 use tally::{searches, Outcome, Tally, EXPECTED, FAR};
 use writer::{compare_tables, compare_written_again};
 
-const USAGE: &str = "usage: compare SEED COUNT (cases and tables 0 to COUNT - 1 and the named ones)
-       compare SEED INDEX one (one case and its tables again)
+const USAGE: &str =
+    "usage: compare SEED COUNT (cases 0 to COUNT - 1 of all kinds and the named ones)
+       compare SEED INDEX one (one case of each kind again)
        compare SEED INDEX named (one named case again, whatever the seed)
        compare SEED INDEX named tables (one of the named tables again)
+       compare SEED INDEX named budgets (one of the named budgets again)
        compare SEED COUNT broken (against the broken variants)
-       compare SEED INDEX broken one (one case and its tables again, against those)
+       compare SEED INDEX broken one (one case of each kind again, against those)
 ";
 
 /// Starting a program takes long, so only one case in so many is run with it,
@@ -32,8 +37,8 @@ const USAGE: &str = "usage: compare SEED COUNT (cases and tables 0 to COUNT - 1 
 const PROGRAMS_EVERY: u64 = 100;
 const FAR_PROGRAMS: u64 = 400;
 
-/// So many generated cases must have all far numbers and all long searches
-/// among them; fewer may leave them to the named cases.
+/// So many generated cases must have all far numbers, all long searches and all
+/// kinds of rows among them; fewer may leave them to the named cases.
 const FAR_CASES: u64 = 5_000;
 
 /// Runs an entry of the second program on a copy of the room.
@@ -132,7 +137,7 @@ fn compare_replay(tally: &mut Tally, name: &str, case: &Case) -> (Outcome, bool)
     (whole, far)
 }
 
-/// The generated cases and tables and the named ones, some of the cases with
+/// The generated cases of all kinds and the named ones, some of the cases with
 /// the programs.
 fn run_all(seed: u64, count: u64) -> io::Result<Tally> {
     let (programs, mut tally) = (Programs::new()?, Tally::default());
@@ -142,6 +147,7 @@ fn run_all(seed: u64, count: u64) -> io::Result<Tally> {
         let case = case(seed, index);
         let far = compare_case(&mut tally, &name, &case);
         compare_tables(&mut tally, &name, &tables_case(seed, index));
+        compare_budgets(&mut tally, &name, &budgets_case(seed, index));
         if index % PROGRAMS_EVERY == 0 {
             let change = (index / PROGRAMS_EVERY) as usize % CHANGES.len();
             programs.compare(&mut tally, &name, &case, &CHANGES[change..=change])?;
@@ -163,6 +169,10 @@ fn run_all(seed: u64, count: u64) -> io::Result<Tally> {
         let name = format!("{name}: `compare {seed} {index} named tables`");
         compare_tables(&mut tally, &name, tables);
     }
+    for (index, (name, budgets)) in named_budgets().iter().enumerate() {
+        let name = format!("{name}: `compare {seed} {index} named budgets`");
+        compare_budgets(&mut tally, &name, budgets);
+    }
     tally.expect(&FAR);
     tally.expect(&searches());
     tally.expect(&EXPECTED);
@@ -176,13 +186,21 @@ fn run_one(programs: &Programs, tally: &mut Tally, name: &str, case: &Case) -> i
 }
 
 /// What is given again; whether all of it is as it should be.
-fn run_again(name: &str, case: Option<&Case>, tables: Option<&TablesCase>) -> io::Result<bool> {
+fn run_again(
+    name: &str,
+    case: Option<&Case>,
+    tables: Option<&TablesCase>,
+    budgets: Option<&BudgetsCase>,
+) -> io::Result<bool> {
     let mut tally = Tally::default();
     if let Some(case) = case {
         run_one(&Programs::new()?, &mut tally, name, case)?;
     }
     if let Some(tables) = tables {
         compare_tables(&mut tally, name, tables);
+    }
+    if let Some(budgets) = budgets {
+        compare_budgets(&mut tally, name, budgets);
     }
     Ok(tally.report())
 }
@@ -196,15 +214,20 @@ fn run(arguments: &[&str]) -> Option<io::Result<bool>> {
         [] => run_all(seed, number).map(|tally| tally.report()),
         ["one"] => {
             let (case, tables) = (case(seed, number), tables_case(seed, number));
-            run_again("that case", Some(&case), Some(&tables))
+            let budgets = budgets_case(seed, number);
+            run_again("that case", Some(&case), Some(&tables), Some(&budgets))
         }
         ["named"] => {
             let (name, case) = &named().into_iter().nth(index)?;
-            run_again(name, Some(case), None)
+            run_again(name, Some(case), None, None)
         }
         ["named", "tables"] => {
             let (name, tables) = &named_tables().into_iter().nth(index)?;
-            run_again(name, None, Some(tables))
+            run_again(name, None, Some(tables), None)
+        }
+        ["named", "budgets"] => {
+            let (name, budgets) = &named_budgets().into_iter().nth(index)?;
+            run_again(name, None, None, Some(budgets))
         }
         ["broken"] => Ok(broken::run(seed, number)),
         ["broken", "one"] => Ok(broken::one(seed, number)),

@@ -3,12 +3,12 @@
 use std::collections::{BTreeMap, BTreeSet};
 use std::fmt::Debug;
 
-use peer::stats::{FOUND_NAMES, LATE_NAMES};
+use peer::stats::{FOUND_NAMES, LATE_NAMES, NO_ROW_NAMES, ROW_NAMES};
 
 use crate::far;
 
 /// An entry, the number it answered, and the kind of place, what was far, or
-/// what the search for J came to.
+/// what the search for J or for budgets came to.
 pub type Kind = (&'static str, u32, &'static str);
 
 /// The far numbers that a whole run must have met.
@@ -24,18 +24,22 @@ pub const FAR: [Kind; 8] = [
 ];
 
 /// The long searches for J, and the reasons for which streams are late, that a
-/// whole run must have met with both entries that answer them.
+/// whole run must have met with both entries that answer them; and the rows of
+/// budgets and the reasons for which there is none.
 pub fn searches() -> Vec<Kind> {
     let of = |entry| {
         let found = FOUND_NAMES.map(|name| (entry, 0, name));
         let late = LATE_NAMES.map(|name| (entry, 7, name));
         found.into_iter().chain(late)
     };
-    of("one stream").chain(of("admit")).collect()
+    let rows = ROW_NAMES.map(|name| ("find budgets", 0, name));
+    let no_rows = NO_ROW_NAMES.map(|name| ("find budgets", 11, name));
+    let budgets = rows.into_iter().chain(no_rows);
+    of("one stream").chain(of("admit")).chain(budgets).collect()
 }
 
 /// The answers that a whole run must have met.
-pub const EXPECTED: [Kind; 71] = [
+pub const EXPECTED: [Kind; 81] = [
     ("sheet", 0, "success"),
     ("sheet", 1, "0 0"),
     ("sheet", 2, "0 0"),
@@ -89,6 +93,16 @@ pub const EXPECTED: [Kind; 71] = [
     ("write", 6, "0 0"),
     ("read back", 0, "success"),
     ("written again", 0, "success"),
+    ("find budgets", 0, "success"),
+    ("find budgets", 1, "0 0"),
+    ("find budgets", 2, "0 0"),
+    ("find budgets", 3, "0 0"),
+    ("find budgets", 4, "0 0"),
+    ("find budgets", 4, "node 0"),
+    ("find budgets", 5, "node stream"),
+    ("find budgets", 6, "0 0"),
+    ("find budgets", 11, "node 0"),
+    ("row admitted", 0, "success"),
     ("admit program", 0, "success"),
     ("admit program", 1, "0 0"),
     ("admit program", 2, "0 0"),
@@ -131,6 +145,7 @@ pub struct Outcome<Left = Vec<u32>> {
 pub struct Tally {
     cases: u64,
     tables: u64,
+    budgets: u64,
     differences: u64,
     answers: BTreeMap<Kind, u64>,
     missing: BTreeSet<Kind>,
@@ -143,6 +158,10 @@ impl Tally {
 
     pub fn new_tables(&mut self) {
         self.tables += 1;
+    }
+
+    pub fn new_budgets(&mut self) {
+        self.budgets += 1;
     }
 
     /// Counts one answer, and says where the two programs differ.
@@ -173,7 +192,7 @@ impl Tally {
         far.iter().any(Option::is_some)
     }
 
-    /// Counts what the search for J of an answer with this number came to.
+    /// Counts what the search behind an answer with this number came to.
     pub fn searched(
         &mut self,
         entry: &'static str,
@@ -196,6 +215,7 @@ impl Tally {
     pub fn report(&self) -> bool {
         println!("cases {}", self.cases);
         println!("tables {}", self.tables);
+        println!("budgets {}", self.budgets);
         for ((entry, number, place), times) in &self.answers {
             println!("{entry} {number} ({place}) {times}");
         }

@@ -1,9 +1,10 @@
 //! The five errors that document 01 has seen in fitters' sheets, three wrong
-//! ranks, eight wrong writers, two wrong starting places, four wrong late tests
-//! and four wrong jumps, each made on purpose, so that a comparison can show
-//! that it catches them. All else is as in the good program, but for the search
-//! that the wrong jumps are made in.
+//! ranks, eight wrong writers, two wrong starting places, four wrong late tests,
+//! four wrong jumps and ten wrong searches for budgets, each made on purpose, so
+//! that a comparison can show that it catches them. All else is as in the good
+//! program, but for the search that the wrong jumps are made in.
 
+mod budgets;
 mod delivery;
 mod jumps;
 mod start;
@@ -14,6 +15,11 @@ use crate::replay::{write_begins, Operation};
 use crate::sheet::{by_deadline, Bus, Rank, MOST_STREAMS_A_NODE};
 use crate::{admission, replay, success, Answer, NOT_BEGUN};
 
+pub use budgets::{
+    find_before_the_room, find_by_the_new_row, find_from_own_budgets, find_in_a_short_room,
+    find_naming_any_at_sixteen, find_naming_any_late, find_one_a_round, find_to_fifteen,
+    find_to_seventeen, find_with_own_cycle, find_writing_nodes_only,
+};
 pub use delivery::{
     admit_delivering_at_own_end, admit_delivering_before_the_slot,
     admit_delivering_behind_own_place, admit_late_at_the_deadline,

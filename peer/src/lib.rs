@@ -1,16 +1,18 @@
 //! The independent second program: written from document 01 and, for the rank,
-//! the writer and the late test, requests One, Two and Four of document 02
-//! alone, so that the proved program can be compared with it. It shares no code
-//! with that program, and keeps other accounts: running remainders in the
-//! search for J, one queue a stream in the replay, a sheet put together apart
-//! from the room in the writer. J is tried one by one from 1 up, as far as the
-//! deadline allows: a search that leaves some out is measured against that.
+//! the writer, the late test and the budgets, requests One, Two, Four and Five
+//! of document 02 alone, so that the proved program can be compared with it. It
+//! shares no code with that program, and keeps other accounts: running
+//! remainders in the search for J, one queue a stream in the replay, a sheet put
+//! together apart from the room in the writer, budgets raised node by node. J is
+//! tried one by one from 1 up, as far as the deadline allows: a search that
+//! leaves some out is measured against that.
 //!
 //! Every entry is total: whatever is handed in gets an answer, and a refusal
 //! changes no lent word.
 
 mod admission;
 pub mod broken;
+mod budgets;
 pub mod generate;
 mod log;
 mod replay;
@@ -21,6 +23,7 @@ pub mod text;
 mod writer;
 
 pub use admission::{admit, one_stream};
+pub use budgets::{find_budgets, find_budgets_by_rounds};
 pub use replay::replay;
 pub use sheet::check_sheet;
 pub use step::step;

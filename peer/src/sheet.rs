@@ -158,6 +158,11 @@ impl Bus {
         }
     }
 
+    /// Puts another budget in the place of the sheet's own.
+    pub fn set_budget(&mut self, node: usize, budget: usize) {
+        self.nodes[node].budget = budget;
+    }
+
     pub fn nodes(&self) -> &[Node] {
         &self.nodes[..self.node_count]
     }

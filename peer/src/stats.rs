@@ -1,6 +1,7 @@
 //! How generated cases spread over the answers and over their causes. The
 //! causes are read off the words here, apart from the code that refuses.
 
+mod budgets;
 mod edges;
 mod rank;
 mod search;
@@ -16,6 +17,7 @@ use crate::{admit, check_sheet, one_stream, replay, step, Answer, NOT_BEGUN};
 use edges::{count_edges, edge};
 use search::{count_found, count_late};
 
+pub use budgets::{gather_budgets, no_row_names, round_count, row_names, NO_ROW_NAMES, ROW_NAMES};
 pub use search::{found_names, late_name, FOUND_NAMES, LATE_NAMES};
 pub use tables::gather_tables;
 

@@ -21,7 +21,8 @@
 //!
 //! Sheets and logs are tables of words, laid out as the repository's README
 //! says; [`write_sheet`] makes a sheet, so that nobody has to lay one out by
-//! hand. Every function takes any tables: what is wrong with them comes back
+//! hand, and [`find_budgets`] finds the smallest budgets with which no stream
+//! is late. Every function takes any tables: what is wrong with them comes back
 //! as a [`Refusal`] with a [`Reason`], a place and a sentence, and then no lent
 //! word has changed. Of all refusals that apply, the first in the order that
 //! stands at each function is given. [`raw`] has the same functions with the
@@ -50,6 +51,15 @@ pub use refusal::{Reason, Refusal};
 /// assert_eq!(replayed.begins, [wistorvan::NOT_BEGUN]);
 /// ```
 pub const NOT_BEGUN: u32 = 4294967295;
+
+/// The most nodes of a sheet: a room of so many words is long enough for
+/// [`find_budgets`], and none that is shorter.
+///
+/// ```
+/// let mut room = [0; wistorvan::MAX_NODES];
+/// assert!(wistorvan::find_budgets(&[1, 5, 1, 6, 1, 1, 20, 20], &mut room).is_ok());
+/// ```
+pub const MAX_NODES: usize = 16;
 
 /// The most streams of a sheet: a room of so many words is long enough for
 /// [`admit`].
@@ -272,6 +282,27 @@ pub struct Written<'r> {
     pub cycle: u32,
 }
 
+/// What [`find_budgets`] answers.
+///
+/// ```
+/// use wistorvan::{find_budgets, MAX_NODES};
+///
+/// // The sheet has a budget of 3; 1 is enough.
+/// let mut room = [0; MAX_NODES];
+/// let found = find_budgets(&[1, 5, 1, 6, 1, 3, 20, 20], &mut room).unwrap();
+/// assert_eq!((found.row, found.sum, found.cycle), (&[1][..], 1, 6));
+/// ```
+#[derive(Clone, Copy, PartialEq, Eq, Hash, Debug)]
+pub struct Budgets<'r> {
+    /// The budget of each node, from node 1 on: the first words of the lent
+    /// room.
+    pub row: &'r [u32],
+    /// The sum of the row.
+    pub sum: u32,
+    /// C, the full cycle in ticks with this row.
+    pub cycle: u32,
+}
+
 /// Whether a sheet is valid.
 ///
 /// # Errors
@@ -449,6 +480,51 @@ pub fn write_sheet<'r>(tables: &Tables<'_>, room: &'r mut [u32]) -> Result<Writt
     let (words, cycle) = raw::write_sheet(tables, room).accepted()?;
     Ok(Written {
         sheet: &room[..words as usize],
+        cycle,
+    })
+}
+
+/// Finds the smallest budgets with which no stream of a sheet is late: no node
+/// has less in any other budgets that work. The search starts with 1
+/// everywhere, and each round gives one more to every node with a late stream;
+/// the sheet's own budgets are checked and not used. The budgets go to the
+/// room's first [`MAX_NODES`] words, with 0 past the last node; the rest of it
+/// stays.
+///
+/// # Errors
+///
+/// In this order: those of [`check_sheet`], [`Reason::RoomTooShort`],
+/// [`Reason::NoBudgets`].
+///
+/// ```
+/// use wistorvan::{admit, find_budgets, Reason, MAX_NODES, MAX_STREAMS};
+///
+/// # fn main() -> Result<(), wistorvan::Refusal> {
+/// // One node with two streams, each due within 15 ticks. A message takes 1
+/// // tick and a slot 5; with one message a turn the second stream is late.
+/// let mut sheet = [1, 1, 5, 6, 2, 1, 50, 15, 50, 15];
+/// let late = admit(&sheet, &mut [0; MAX_STREAMS]).unwrap_err();
+/// assert_eq!((late.reason(), late.place()), (Reason::Late, (1, 2)));
+///
+/// let mut room = [0; MAX_NODES];
+/// let found = find_budgets(&sheet, &mut room)?;
+/// assert_eq!((found.row, found.sum, found.cycle), (&[2][..], 2, 7));
+/// sheet[5] = found.row[0];
+/// assert!(admit(&sheet, &mut [0; MAX_STREAMS]).is_ok());
+///
+/// // Due within 10 ticks, where a cycle and a turn of one message take 11.
+/// sheet[7] = 10;
+/// let refusal = find_budgets(&sheet, &mut room).unwrap_err();
+/// assert_eq!((refusal.reason(), refusal.place()), (Reason::NoBudgets, (1, 0)));
+/// # Ok(())
+/// # }
+/// ```
+pub fn find_budgets<'r>(sheet: &[u32], room: &'r mut [u32]) -> Result<Budgets<'r>, Refusal> {
+    let (sum, cycle) = raw::find_budgets(sheet, room).accepted()?;
+    // The first word of a sheet that is not refused is its number of nodes.
+    Ok(Budgets {
+        row: &room[..sheet[0] as usize],
+        sum,
         cycle,
     })
 }

@@ -90,6 +90,12 @@ mod linked {
             room: *mut u32,
             room_words: usize,
         ) -> Answer;
+        pub fn wistorvan_find_budgets(
+            sheet: *const u32,
+            sheet_words: usize,
+            room: *mut u32,
+            room_words: usize,
+        ) -> Answer;
     }
 }
 
@@ -218,5 +224,21 @@ pub fn write_sheet(tables: &Tables<'_>, room: &mut [u32]) -> Answer {
             room.as_mut_ptr(),
             room.len(),
         )
+    }
+}
+
+/// [`crate::find_budgets`]: the sum of the budgets and the full cycle with
+/// them; the budgets in the room's first sixteen words, 0 past the last node.
+///
+/// ```
+/// let mut room = [7; 17];
+/// let answer = wistorvan::raw::find_budgets(&[1, 5, 1, 6, 1, 3, 20, 20], &mut room);
+/// assert_eq!((answer.number, answer.second, answer.third), (0, 1, 6));
+/// assert_eq!(room, [1, 0, 0, 0, 0, 0, 0, 0, 0, 0, 0, 0, 0, 0, 0, 0, 7]);
+/// ```
+#[must_use]
+pub fn find_budgets(sheet: &[u32], room: &mut [u32]) -> Answer {
+    unsafe {
+        linked::wistorvan_find_budgets(sheet.as_ptr(), sheet.len(), room.as_mut_ptr(), room.len())
     }
 }

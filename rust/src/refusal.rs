@@ -5,7 +5,7 @@ use std::fmt;
 
 /// What is refused. The names are those of the header for C.
 ///
-/// Later versions will name more numbers (11 to 15 are kept for them), so a
+/// Later versions will name more numbers (12 to 15 are kept for them), so a
 /// `match` needs an arm for the rest.
 ///
 /// ```
@@ -41,7 +41,8 @@ pub enum Reason {
     /// order. Place node, stream.
     BadStream,
     /// 6: the room is shorter than one word a stream (admit) or a release
-    /// (replay, step), or than the sheet (write sheet). Place 0, 0.
+    /// (replay, step), than the sheet (write sheet), or than sixteen words,
+    /// however few the nodes are (find budgets). Place 0, 0.
     RoomTooShort,
     /// 7: a stream is late: a message of it could be delivered after its
     /// deadline (delivery is when its turn's protocol slot ends). The first in
@@ -56,6 +57,10 @@ pub enum Reason {
     BadLog,
     /// 10: the horizon is over 1,000,000,000. Place 0, 0.
     HorizonTooLarge,
+    /// 11: no budgets of 1 to 16 make every stream in time. The node has a
+    /// late stream and 16 already, in the earliest round with such a node, and
+    /// is the first of them. Place node, 0.
+    NoBudgets,
     /// 16: the record's tick or turns are over 1,000,000,000, or its node is
     /// not 1 to n. Place 0, 0.
     BadBus,
@@ -90,7 +95,7 @@ impl Refusal {
         Refusal { number, place }
     }
 
-    /// The number: 1 to 10 or 16, or one that a later library has.
+    /// The number: 1 to 11 or 16, or one that a later library has.
     ///
     /// ```
     /// assert_eq!(wistorvan::check_sheet(&[]).unwrap_err().number(), 1);
@@ -132,6 +137,7 @@ impl Refusal {
             8 => Reason::NoSuchStream,
             9 => Reason::BadLog,
             10 => Reason::HorizonTooLarge,
+            11 => Reason::NoBudgets,
             16 => Reason::BadBus,
             _ => Reason::Unnamed,
         }
@@ -147,12 +153,19 @@ impl Refusal {
             Reason::BadContents if a == 0 => write!(f, "the sheet or a table has a wrong length"),
             Reason::BadContents => write!(f, "node {a}: wrong place, stream count or budget"),
             Reason::BadStream => write!(f, "stream {b} of node {a}: wrong period or deadline"),
-            Reason::RoomTooShort => write!(f, "the room is too short for waits, begins or sheet"),
+            Reason::RoomTooShort => write!(
+                f,
+                "the room is too short for waits, begins, sheet or budgets"
+            ),
             Reason::Late => write!(f, "stream {b} of node {a} would be late"),
             Reason::NoSuchStream => write!(f, "the sheet has no stream {b} of node {a}"),
             Reason::BadLog if b == 0 => write!(f, "the log's length is odd or over 4,096 releases"),
             Reason::BadLog => write!(f, "release {b}: wrong tick or unknown stream"),
             Reason::HorizonTooLarge => write!(f, "the horizon is over 1,000,000,000"),
+            Reason::NoBudgets => write!(
+                f,
+                "no budgets of 1 to 16 work: node {a} is late even with 16"
+            ),
             Reason::BadBus => write!(f, "the record's tick, node or turns are out of range"),
             Reason::Unnamed => write!(f, "this version has no name for the number"),
         }
@@ -207,18 +220,18 @@ mod tests {
             .filter(|(reason, _)| *reason != Reason::Unnamed)
             .map(|(reason, number)| (name_in_c(reason), number))
             .collect();
-        assert_eq!(named.len(), 11);
+        assert_eq!(named.len(), 12);
         assert_eq!(named, named_in_header());
     }
 
     #[test]
     fn a_number_without_a_name_is_still_told() {
-        let later = Refusal::new(11, (3, 4));
-        assert_eq!((later.number(), later.place()), (11, (3, 4)));
+        let later = Refusal::new(12, (3, 4));
+        assert_eq!((later.number(), later.place()), (12, (3, 4)));
         assert_eq!(later.reason(), Reason::Unnamed);
         assert_eq!(
             later.to_string(),
-            "refused 11 at 3 4: this version has no name for the number"
+            "refused 12 at 3 4: this version has no name for the number"
         );
     }
 }

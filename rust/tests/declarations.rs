@@ -6,7 +6,7 @@
 use std::fs;
 use std::path::Path;
 
-use wistorvan::{LONGEST_SHEET, MAX_RELEASES, MAX_STREAMS, NOT_BEGUN};
+use wistorvan::{LONGEST_SHEET, MAX_NODES, MAX_RELEASES, MAX_STREAMS, NOT_BEGUN};
 
 /// A file of the repository.
 fn text(name: &str) -> String {
@@ -103,8 +103,8 @@ fn sorted(mut declarations: Vec<String>) -> Vec<String> {
 }
 
 #[test]
-fn six_entries() {
-    assert_eq!(entries().len(), 6);
+fn seven_entries() {
+    assert_eq!(entries().len(), 7);
 }
 
 #[test]
@@ -145,6 +145,7 @@ fn the_header_has_the_same_limits() {
         .collect();
     let expected = [
         format!("NOT_BEGUN UINT32_C({NOT_BEGUN})"),
+        format!("MAX_NODES {MAX_NODES}"),
         format!("MAX_STREAMS {MAX_STREAMS}"),
         format!("MAX_RELEASES {MAX_RELEASES}"),
         format!("LONGEST_SHEET {LONGEST_SHEET}"),

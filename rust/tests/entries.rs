@@ -3,9 +3,9 @@
 
 use std::error::Error;
 
-use wistorvan::{admit, check_sheet, one_stream, raw, replay, step, write_sheet};
-use wistorvan::{Bus, ListedWait, Reason, Refusal, Step, Tables, Written};
-use wistorvan::{LONGEST_SHEET, MAX_RELEASES, MAX_STREAMS, NOT_BEGUN};
+use wistorvan::{admit, check_sheet, find_budgets, one_stream, raw, replay, step, write_sheet};
+use wistorvan::{Budgets, Bus, ListedWait, Reason, Refusal, Step, Tables, Written};
+use wistorvan::{LONGEST_SHEET, MAX_NODES, MAX_RELEASES, MAX_STREAMS, NOT_BEGUN};
 
 const SHEET_A: [u32; 15] = [2, 5, 1, 9, 2, 1, 13, 1, 2, 40, 40, 60, 60, 30, 30];
 const TABLES_A: Tables = Tables {
@@ -129,6 +129,68 @@ fn each_word_of_the_tables_in_its_place() {
     assert_eq!(check_sheet(&room), Ok(()));
 }
 
+/// What a row that is found leaves of a room of words that are all 7: sixteen
+/// words are written.
+fn room_with_row(row: &[u32]) -> [u32; MAX_NODES + 2] {
+    let mut room = [7; MAX_NODES + 2];
+    room[..MAX_NODES].fill(0);
+    room[..row.len()].copy_from_slice(row);
+    room
+}
+
+#[test]
+fn the_smallest_budgets_of_sheet_a() {
+    let mut room = [7; MAX_NODES + 2];
+    let expected = Budgets {
+        row: &[1, 1],
+        sum: 2,
+        cycle: 12,
+    };
+    assert_eq!(find_budgets(&SHEET_A, &mut room), Ok(expected));
+    assert_eq!(room, room_with_row(&[1, 1]));
+}
+
+/// The line of examples/budgets.c, with these budgets.
+fn line_with([first, second, third]: [u32; 3]) -> [u32; 28] {
+    [
+        3, 5, 1, 12, 4, first, 20, 2, second, 24, 2, third, 200, 59, 500, 69, 1000, 49, 400, 69,
+        250, 39, 1000, 49, 1000, 1000, 10000, 10000,
+    ]
+}
+
+#[test]
+fn budgets_that_differ() {
+    // Node 1 needs two messages a turn, and with these the cycle is too long
+    // for one message a turn of node 2.
+    let (mut room, mut waits) = ([7; MAX_NODES + 2], [0; MAX_STREAMS]);
+    let expected = Budgets {
+        row: &[2, 2, 1],
+        sum: 5,
+        cycle: 28,
+    };
+    assert_eq!(find_budgets(&line_with([2, 1, 4]), &mut room), Ok(expected));
+    assert_eq!(room, room_with_row(&[2, 2, 1]));
+    let admission = admit(&line_with([2, 2, 1]), &mut waits).unwrap();
+    assert_eq!(admission.cycle, 28);
+    for (less, place) in [([1, 2, 1], (1, 2)), ([2, 1, 1], (2, 2))] {
+        let refusal = admit(&line_with(less), &mut waits).unwrap_err();
+        assert_eq!((refusal.number(), refusal.place()), (7, place));
+    }
+}
+
+#[test]
+fn the_budgets_of_the_sheet_are_checked_and_not_used() {
+    let mut room = [7; MAX_NODES];
+    for budgets in [[1, 1, 1], [2, 2, 1], [16, 16, 16]] {
+        let found = find_budgets(&line_with(budgets), &mut room).unwrap();
+        assert_eq!((found.row, found.cycle), (&[2, 2, 1][..], 28));
+    }
+    for budgets in [[2, 0, 1], [2, 17, 1]] {
+        let refusal = find_budgets(&line_with(budgets), &mut room).unwrap_err();
+        assert_eq!((refusal.number(), refusal.place()), (4, (2, 0)));
+    }
+}
+
 #[test]
 fn the_plain_numbers() {
     let numbers = |a: raw::Answer| (a.number, a.second, a.third);
@@ -149,6 +211,12 @@ fn the_plain_numbers() {
     let answer = raw::write_sheet(&TABLES_A, &mut room);
     assert_eq!(numbers(answer), (0, 15, 17));
     assert_eq!((&room[..15], room[15]), (&SHEET_A[..], 7));
+    let mut room = [7; MAX_NODES + 2];
+    let answer = raw::find_budgets(&SHEET_A, &mut room);
+    assert_eq!(numbers(answer), (0, 2, 12));
+    assert_eq!(room, room_with_row(&[1, 1]));
+    let answer = raw::find_budgets(&sheet_a_with(14, 16), &mut room);
+    assert_eq!(numbers(answer), (11, 2, 0));
 }
 
 /// Every function that takes a sheet gives its refusals before its own.
@@ -163,6 +231,7 @@ fn sheet_refusal(sheet: &[u32]) -> Refusal {
     assert_eq!(admit(sheet, &mut []), Err(refusal));
     assert_eq!(replay(sheet, &[1], TOO_LARGE, &mut []), Err(refusal));
     assert_eq!(step(sheet, &[1], &mut bus, &mut []), Err(refusal));
+    assert_eq!(find_budgets(sheet, &mut []), Err(refusal));
     refusal
 }
 
@@ -219,6 +288,23 @@ fn a_late_stream() {
 }
 
 #[test]
+fn no_budgets_that_work() {
+    let (mut room, too_short) = ([7; MAX_NODES], &mut [7; MAX_NODES - 1]);
+    // In the second sheet node 1 becomes late too, but node 2 has 16 first.
+    for (sheet, node) in [(sheet_a_with(10, 16), 1), (sheet_a_with(14, 16), 2)] {
+        let refusal = find_budgets(&sheet, &mut room).unwrap_err();
+        let why = format!("no budgets of 1 to 16 work: node {node} is late even with 16");
+        assert_refusal(refusal, Reason::NoBudgets, 11, (node, 0), &why);
+        let refusal = find_budgets(&sheet, too_short).unwrap_err();
+        assert_eq!(refusal.reason(), Reason::RoomTooShort);
+    }
+    assert_eq!((room, *too_short), ([7; MAX_NODES], [7; MAX_NODES - 1]));
+    // A tick more is enough: with 1 and 1 the cycle is 12, and 12 - 1 + 6 is 17.
+    let found = find_budgets(&sheet_a_with(14, 17), &mut room).unwrap();
+    assert_eq!(found.row, [1, 1]);
+}
+
+#[test]
 fn a_stream_that_is_not_there() {
     for (node, stream) in [(0, 1), (1, 0), (1, 3), (2, 2), (3, 1)] {
         let refusal = one_stream(&SHEET_A, node, stream).unwrap_err();
@@ -229,7 +315,7 @@ fn a_stream_that_is_not_there() {
 
 #[test]
 fn a_room_too_short() {
-    let why = "the room is too short for waits, begins or sheet";
+    let why = "the room is too short for waits, begins, sheet or budgets";
     let (mut room, mut bus) = ([NOT_BEGUN; 2], Bus::START);
     let refusal = admit(&SHEET_A, &mut room).unwrap_err();
     assert_refusal(refusal, Reason::RoomTooShort, 6, (0, 0), why);
@@ -239,6 +325,10 @@ fn a_room_too_short() {
     let mut room = [7; SHEET_A.len() - 1];
     assert_eq!(write_sheet(&TABLES_A, &mut room), Err(refusal));
     assert_eq!(room, [7; SHEET_A.len() - 1]);
+    // Sixteen words, though the sheet has two nodes.
+    let mut room = [7; MAX_NODES - 1];
+    assert_eq!(find_budgets(&SHEET_A, &mut room), Err(refusal));
+    assert_eq!(room, [7; MAX_NODES - 1]);
 }
 
 /// The replay and the step refuse a log alike, before all but the sheet.
@@ -427,6 +517,17 @@ fn the_longest_rooms() {
     // Full cycle 16 x 16 + 16, and the fifteen of its node in front of the last.
     assert_eq!((waits.len(), waits[0], waits[255]), (MAX_STREAMS, 271, 286));
     let refusal = admit(&sheet, &mut room[1..]).unwrap_err();
+    assert_eq!(refusal.reason(), Reason::RoomTooShort);
+
+    let mut room = [0; MAX_NODES];
+    let found = find_budgets(&sheet, &mut room).unwrap();
+    let expected = Budgets {
+        row: &[1; 16],
+        sum: 16,
+        cycle: 32,
+    };
+    assert_eq!(found, expected);
+    let refusal = find_budgets(&sheet, &mut room[1..]).unwrap_err();
     assert_eq!(refusal.reason(), Reason::RoomTooShort);
 
     let log = [0, 256].repeat(MAX_RELEASES);

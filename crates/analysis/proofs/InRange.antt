@@ -9,13 +9,13 @@ use mathlib.Core.List.{List, _∷_}
 use lib.ListN.{length, length-map, getD}
 use Rattle.model.specs.declared.Stream.{Stream}
 use Rattle.model.specs.Limits.{maxTime}
-use Rattle.model.specs.Sheet.{nodes, place, streamCount, period, deadline, OnSheet}
-use Rattle.model.specs.Analysis.{streamOf, streamsFrom, streamsOf, outranks, above, timingOf}
+use Rattle.model.specs.Sheet.{nodes, place, streamCount, budget, period, deadline, cycle, OnSheet}
+use Rattle.model.specs.Analysis.{streamOf, streamsFrom, streamsOf, outranks, above, timingWith}
 use Rattle.model.proofs.Sheet.ValidSheet.{SheetFits}
 use Rattle.model.proofs.Sheet.NodeSums.{cycle-least, cycle-most}
 use Rattle.model.proofs.Analysis.NodeStreams.{streams-length, above-length}
 use Rattle.analysis.specs.Periods.{periodsOf}
-use Rattle.wait.specs.InRange.{Divisors, Ranges}
+use Rattle.wait.specs.InRange.{Divisors, Shares, Ranges}
 use Rattle.analysis.specs.Body.{Body}
 
 -- The body of a node has no more streams than a node may have.
@@ -71,17 +71,27 @@ module _ (s : List ℕ) (k : ℕ) (x : Stream) where
         positive = above-positive 1 (streamCount s k) (λ i from to. fits .streams k i (record { nodeFrom = low; nodeTo = high; streamFrom = from; streamTo = omega arith }) .periodFrom);
       }
 
--- The timing of a node is in range,
-pub node-ranges : (s : List ℕ) (k : ℕ) → SheetFits s → 1 ≤ k → k ≤ nodes s → Ranges (timingOf s k)
-node-ranges s k fits low high =
+-- The sheet's own cycle and budget are as a node can have them,
+pub own-shares : (s : List ℕ) (k : ℕ) → SheetFits s → 1 ≤ k → k ≤ nodes s → Shares (cycle s) (budget s k)
+own-shares s k fits low high =
     record {
       cycleFrom = cycle-least s fits;
       cycleTo = cycle-most s fits;
       budgetFrom = fits .rows k low high .budgetFrom;
       budgetTo = fits .rows k low high .budgetTo;
+    }
+
+-- with such the timing is in range,
+pub timing-ranges : (s : List ℕ) (C m : ℕ) → SheetFits s → Shares C m → Ranges (timingWith s C m)
+timing-ranges s C m fits shares =
+    record {
+      cycleFrom = shares .cycleFrom;
+      cycleTo = shares .cycleTo;
+      budgetFrom = shares .budgetFrom;
+      budgetTo = shares .budgetTo;
       messageTo = fits .header .messageTo;
       slotTo = fits .header .slotTo;
-      messagesTo = mul-le-mul (fits .rows k low high .budgetTo) (fits .header .messageTo);
+      messagesTo = mul-le-mul (shares .budgetTo) (fits .header .messageTo);
     }
 
 -- and so is the deadline of a stream.

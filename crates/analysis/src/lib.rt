@@ -21,7 +21,7 @@ use verdict::verdict_on;
 
 mod cycle; // cycle.rt: the full cycle
 mod higher; // higher.rt: who is ranked above a stream
-mod verdict; // verdict.rt: the verdict on one stream
+pub mod verdict; // verdict.rt: the verdict on one stream
 mod judge; // judge.rt: the verdicts on all streams
 
 // A node or a stream of it that the sheet has not.

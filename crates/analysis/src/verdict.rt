@@ -1,7 +1,8 @@
-// The verdict on one stream of a sheet.
+// The verdict on one stream of a sheet, with a full cycle and a budget of its node that need not be the sheet's own.
 ghost use mathlib.Core.Path.{_≡_};
 ghost use Rattle.model.specs.Sheet.{cycle as fullCycle, OnSheet, Valid};
-ghost use Rattle.model.specs.Analysis.{timingOf, verdictOf};
+ghost use Rattle.model.specs.Analysis.{timingWith, verdictWith, verdictOf};
+ghost use Rattle.wait.specs.InRange.{Shares};
 use crate::higher::higher_periods;
 use layout::budget_of;
 use layout::stream_of;
@@ -10,27 +11,34 @@ use model::Timing;
 use model::Verdict;
 use wait::verdict_by;
 
-// The timing of node k, with the sheet's full cycle.
-fn timing_of(sheet: &[u32], k: u32, cycle: u32) -> Timing
-    requires { ⌜ cycle ≡ fullCycle (now sheet) ⌝ }
-    ensures { λ r. ⌜ r ≡ timingOf (now (sheet .entry)) k ⌝ }
+// The timing of a node with that full cycle and budget.
+fn timing_with(sheet: &[u32], cycle: u32, budget: u32) -> Timing
+    ensures { λ r. ⌜ r ≡ timingWith (now (sheet .entry)) cycle budget ⌝ }
 {
     Timing {
         cycle,
-        budget: budget_of(sheet, k),
+        budget,
         message: word_at(sheet, 1),
         slot: word_at(sheet, 2),
     }
 }
 
-// The verdict on stream j of node k, with the sheet's full cycle.
+// The verdict on stream j of node k with that full cycle and budget.
+pub fn verdict_with(sheet: &[u32], cycle: u32, budget: u32, k: u32, j: u32) -> Verdict
+    requires { ⌜ Valid (now sheet) × OnSheet (now sheet) k j × Shares cycle budget ⌝ }
+    ensures { λ r. ⌜ r ≡ verdictWith (now (sheet .entry)) cycle budget k j ⌝ }
+{
+    let stream = stream_of(sheet, k, j);
+    let timing = timing_with(sheet, cycle, budget);
+    let mut higher = [0u32; 16];
+    let n = higher_periods(sheet, k, stream, &mut higher);
+    verdict_by(&higher[..n], timing, stream.deadline)
+}
+
+// The verdict on stream j of node k with the sheet's own budget and, as `cycle`, its full cycle.
 pub fn verdict_on(sheet: &[u32], k: u32, j: u32, cycle: u32) -> Verdict
     requires { ⌜ Valid (now sheet) × OnSheet (now sheet) k j × (cycle ≡ fullCycle (now sheet)) ⌝ }
     ensures { λ r. ⌜ r ≡ verdictOf (now (sheet .entry)) k j ⌝ }
 {
-    let stream = stream_of(sheet, k, j);
-    let timing = timing_of(sheet, k, cycle);
-    let mut higher = [0u32; 16];
-    let n = higher_periods(sheet, k, stream, &mut higher);
-    verdict_by(&higher[..n], timing, stream.deadline)
+    verdict_with(sheet, cycle, budget_of(sheet, k), k, j)
 }

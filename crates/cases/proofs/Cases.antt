@@ -6,9 +6,9 @@ use Rattle.theory.specs.Queue.{firstIn, first, firstOnes}
 use Rattle.theory.specs.Listing.{valuesFrom, joinedFrom}
 use Rattle.model.specs.Refusal.{refuseIf, _orElse_, firstOf, outside}
 use Rattle.model.specs.Sheet.{cycle, ticksOutside, countsOutside, timesOutside, rowWrong, rowRefusal, streamRefusal, bodyRefusal, headerRefusal, sheetRefusal}
-use Rattle.model.specs.Analysis.{streamsFrom, outranks, above, mostReleases, interference, waitFor, search, verdict, verdictOf}
+use Rattle.model.specs.Analysis.{streamsFrom, outranks, above, mostReleases, interference, waitFor, search, verdict, verdictWith}
 use Rattle.model.specs.Protocol.{ofNode, queuedBefore, waiting, beginsFrom, serve, nextNode, nextBus, turn, start, run, replayed}
-use Rattle.model.specs.Answers.{roomRefusal, tickBefore, releaseRefusal, logRefusal, horizonRefusal, lateRefusal, nodeLateRefusal, waitWord, bufferAfter, unknownRefusal, verdictAnswer, recordRefusal, oneStreamAnswer, admitAnswer, admitBuffer, replayAnswer, replayBuffer, stepRefusal, stepAnswer, stepBus, stepBuffer}
+use Rattle.model.specs.Answers.{roomRefusal, tickBefore, releaseRefusal, logRefusal, horizonRefusal, lateRefusal, nodeLateWith, waitWord, bufferAfter, unknownRefusal, verdictAnswer, recordRefusal, oneStreamAnswer, admitAnswer, admitBuffer, replayAnswer, replayBuffer, stepRefusal, stepAnswer, stepBus, stepBuffer}
 use Rattle.model.specs.Bench.{sheetA, sheetA6, sheetP7, sheetPair, logP9, logP11}
 use Rattle.cases.specs.Cases.{AllHold, cases, gives, outcomeOf, lent, Further, sheetEqual, logBoth, madeUpBus, madeUpRoom}
 
@@ -17,9 +17,9 @@ unfolding
     sum upTo firstIn first firstOnes
     refuseIf _orElse_ firstOf outside
     cycle ticksOutside countsOutside timesOutside rowWrong rowRefusal streamRefusal bodyRefusal headerRefusal sheetRefusal
-    streamsFrom outranks above mostReleases interference waitFor search verdict verdictOf
+    streamsFrom outranks above mostReleases interference waitFor search verdict verdictWith
     ofNode queuedBefore waiting beginsFrom serve nextNode nextBus turn start run replayed
-    roomRefusal tickBefore releaseRefusal logRefusal horizonRefusal lateRefusal nodeLateRefusal waitWord valuesFrom joinedFrom bufferAfter
+    roomRefusal tickBefore releaseRefusal logRefusal horizonRefusal lateRefusal nodeLateWith waitWord valuesFrom joinedFrom bufferAfter
     admitAnswer admitBuffer replayAnswer replayBuffer
     cases gives outcomeOf lent sheetA sheetA6 sheetP7 logP9 logP11
 all-hold = refl
@@ -29,10 +29,10 @@ unfolding
     sum upTo firstIn first firstOnes
     refuseIf _orElse_ firstOf outside
     cycle ticksOutside countsOutside timesOutside rowWrong rowRefusal streamRefusal bodyRefusal headerRefusal sheetRefusal
-    streamsFrom outranks above mostReleases interference waitFor search verdict verdictOf
+    streamsFrom outranks above mostReleases interference waitFor search verdict verdictWith
     ofNode queuedBefore waiting beginsFrom serve nextNode nextBus turn start run replayed
     unknownRefusal verdictAnswer oneStreamAnswer
-    roomRefusal tickBefore releaseRefusal logRefusal horizonRefusal lateRefusal nodeLateRefusal waitWord valuesFrom joinedFrom bufferAfter
+    roomRefusal tickBefore releaseRefusal logRefusal horizonRefusal lateRefusal nodeLateWith waitWord valuesFrom joinedFrom bufferAfter
     admitAnswer admitBuffer replayAnswer replayBuffer recordRefusal stepRefusal stepAnswer stepBus stepBuffer
     lent sheetA sheetP7 sheetPair logP11 sheetEqual logBoth madeUpBus madeUpRoom
 further =

@@ -4,5 +4,6 @@ pub mod Buffer
 pub mod Asked
 pub mod NotRefused
 pub mod ListedWaits
+pub mod LongerLate
 pub mod WaitWords
 pub mod Stepping

@@ -116,10 +116,18 @@ verdict H t deadline = search H t (triesWorth t deadline) 1
 abbrev pub higherStreams : List ℕ → ℕ → ℕ → List Stream
 higherStreams s k j = above (streamOf s k j) (streamsOf s k)
 
+-- The timing of a node of the sheet with a full cycle and a budget.
+abbrev pub timingWith : List ℕ → ℕ → ℕ → Timing
+timingWith s C m = record { cycle = C; budget = m; message = messageTicks s; slot = slotTicks s }
+
+-- The verdict on stream j of node k of a sheet, with a full cycle and a budget of the node that need not be the sheet's own.
+unfoldable pub verdictWith : List ℕ → ℕ → ℕ → ℕ → ℕ → Verdict
+verdictWith s C m k j = verdict (interference (higherStreams s k j)) (timingWith s C m) (deadline s k j)
+
 -- The timing of node k, with the sheet's own cycle and budget.
 abbrev pub timingOf : List ℕ → ℕ → Timing
-timingOf s k = record { cycle = cycle s; budget = budget s k; message = messageTicks s; slot = slotTicks s }
+timingOf s k = timingWith s (cycle s) (budget s k)
 
 -- The verdict on stream j of node k of a sheet.
-unfoldable pub verdictOf : List ℕ → ℕ → ℕ → Verdict
-verdictOf s k j = verdict (interference (higherStreams s k j)) (timingOf s k) (deadline s k j)
+abbrev pub verdictOf : List ℕ → ℕ → ℕ → Verdict
+verdictOf s k j = verdictWith s (cycle s) (budget s k) k j

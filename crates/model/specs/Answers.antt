@@ -12,8 +12,8 @@ use Rattle.model.specs.declared.Verdict.{Verdict}
 use Rattle.model.specs.declared.Verdict.the-variants.{Late, Listed}
 use Rattle.model.specs.Limits.{releaseWords, maxReleases, maxTime}
 use Rattle.model.specs.Refusal.{success, refuse, accepted, refuseIf, _orElse_, firstOf, outside}
-use Rattle.model.specs.Sheet.{nodes, streamCount, totalStreams, inSheetOrder, cycle, sheetRefusal}
-use Rattle.model.specs.Analysis.{verdictOf}
+use Rattle.model.specs.Sheet.{nodes, streamCount, budget, totalStreams, inSheetOrder, cycle, sheetRefusal}
+use Rattle.model.specs.Analysis.{verdictOf, verdictWith}
 use Rattle.model.specs.Protocol.{releases, releaseTick, releaseStream, serveTurn, nextBus, State, replayed}
 
 -- Refusal 6: "room shorter than one word a stream (admit) or a release (replay, step); for a later request, shorter than what its
@@ -65,9 +65,13 @@ unfoldable pub lateRefusal : ℕ → ℕ → Verdict → Answer
 lateRefusal k j Late = refuse 7 k j
 lateRefusal k j (Listed wait cycles) = accepted
 
--- Refusal 7 of one node's streams, in order.
-unfoldable pub nodeLateRefusal : List ℕ → ℕ → Answer
-nodeLateRefusal s k = firstOf (λ j. lateRefusal k j (verdictOf s k j)) 1 (streamCount s k)
+-- Refusal 7 of one node's streams, in order, with a full cycle and a budget of the node.
+unfoldable pub nodeLateWith : List ℕ → ℕ → ℕ → ℕ → Answer
+nodeLateWith s C m k = firstOf (λ j. lateRefusal k j (verdictWith s C m k j)) 1 (streamCount s k)
+
+-- The same with the sheet's own.
+abbrev pub nodeLateRefusal : List ℕ → ℕ → Answer
+nodeLateRefusal s k = nodeLateWith s (cycle s) (budget s k) k
 
 -- The word for a verdict in the list of waits. A late stream has no listed wait, and then no list is written.
 unfoldable pub waitWord : Verdict → ℕ

@@ -1,6 +1,6 @@
 -- Sums: they grow with their terms and with their lists, and are the same by parts. Assumes nothing.
 use Prim.Native.Nat.{ℕ, zero, suc, pred, _+_, _*_, _≤_, _<_, zero-le}
-use native.Mathlib.Nat.{le-refl, add-mul}
+use native.Mathlib.Nat.{le-refl, le-step, eq-or-lt-of-le, add-mul}
 use native.Mathlib.Numerals.{add-one}
 use native.Mathlib.Decide.{le-ind}
 use native.Mathlib.Omega.{arith}
@@ -98,6 +98,25 @@ sumTo-same f g (suc n) same =
       same (suc n) (omega arith) (le-refl _),
       sumTo-same f g n (λ k low high. same k low (omega arith)),
     )
+
+-- Terms that are no larger have no larger sum,
+pub sumTo-mono : (f g : ℕ → ℕ) (n : ℕ) → ((k : ℕ) → 1 ≤ k → k ≤ n → f k ≤ g k) → sumTo f n ≤ sumTo g n
+sumTo-mono f g n each = sum-mono f g (upTo n) (λ k m. let h = upTo-range n k m in each k (h .0) (h .1))
+
+-- and a smaller one where one of them is smaller.
+pub sumTo-less : (f g : ℕ → ℕ) (n k : ℕ)
+    → ((i : ℕ) → 1 ≤ i → i ≤ n → f i ≤ g i)
+    → 1 ≤ k
+    → k ≤ n
+    → f k < g k
+    → sumTo f n < sumTo g n
+sumTo-less f g zero k each one inside less = absurd (omega arith)
+sumTo-less f g (suc n) k each one inside less =
+    let before : (i : ℕ) → 1 ≤ i → i ≤ n → f i ≤ g i = λ i low high. each i low (le-step high) in
+    ⊎-elim
+    (λ last. omega (arith, sumTo-next f n, sumTo-next g n, sumTo-mono f g n before, rw last at less))
+    (λ earlier. omega (arith, sumTo-next f n, sumTo-next g n, sumTo-less f g n k before one (omega arith) less, each (suc n) (omega arith) (le-refl _)))
+    (eq-or-lt-of-le inside)
 
 -- Terms that are at most a number have at most so many times that number,
 pub sumTo-most : (f : ℕ → ℕ) (most n : ℕ) → ((k : ℕ) → 1 ≤ k → k ≤ n → f k ≤ most) → sumTo f n ≤ n * most

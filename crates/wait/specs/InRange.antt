@@ -18,6 +18,13 @@ pub record Divisors (periods : List ℕ) : Type 0 where
   pub few : length periods ≤ maxStreams
   pub positive : (i : ℕ) → i < length periods → 1 ≤ getD periods i 0
 
+-- A full cycle and a budget as a node can have them.
+pub record Shares (cycle budget : ℕ) : Type 0 where
+  pub cycleFrom : 2 ≤ cycle
+  pub cycleTo : cycle ≤ maxCycle
+  pub budgetFrom : 1 ≤ budget
+  pub budgetTo : budget ≤ maxBudget
+
 -- A timing as a valid sheet has it.
 pub record Ranges (t : Timing) : Type 0 where
   pub cycleFrom : 2 ≤ t .cycle

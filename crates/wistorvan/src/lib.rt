@@ -3,9 +3,12 @@
 ghost use mathlib.Core.Path.{_≡_};
 ghost use lib.ListN.{length};
 ghost use Prim.Native.Nat.{_≤_};
+ghost use Rattle.model.specs.Limits.{maxNodes};
 ghost use Rattle.model.specs.Sheet.{totalStreams, sheetRefusal, OnSheet, Valid};
 ghost use Rattle.model.specs.Answers.{oneStreamAnswer, admitAnswer, admitBuffer, replayAnswer, replayBuffer, stepAnswer, stepBus, stepBuffer};
 ghost use Rattle.model.specs.Demand.{Judged, AllJudged, WholeReplay};
+ghost use Rattle.budgets.specs.Answer.{findAnswer, findBuffer};
+ghost use Rattle.budgets.specs.Least.{LeastBudgets};
 ghost use Rattle.tables.specs.Tables.{lentTables};
 ghost use Rattle.tables.specs.Writing.{writeAnswer, writeBuffer, ReadsBack, WrittenAgain};
 use model::Answer;
@@ -37,6 +40,17 @@ pub extern "C" fn wistorvan_admit(sheet: &[u32], room: &mut [u32]) -> Answer
     ensures demand { λ r. ⌜ (Valid (now (sheet .entry)) → totalStreams (now (sheet .entry)) ≤ length (now (room .entry)) → AllJudged (now (sheet .entry)) r (now (room .exit))) ⌝ }
 {
     analysis::admit(sheet, room)
+}
+
+// "Find the budgets": the sum and the C of the least row of budgets, and the row in the buffer's first sixteen words. For a valid sheet, with
+// room enough, what request Five says of the row holds of what it answers and writes.
+#[no_mangle]
+pub extern "C" fn wistorvan_find_budgets(sheet: &[u32], room: &mut [u32]) -> Answer
+    ensures answer { λ r. ⌜ r ≡ findAnswer (now (sheet .entry)) (length (now (room .entry))) ⌝ }
+    ensures buffer { λ r. ⌜ now (room .exit) ≡ findBuffer (now (sheet .entry)) (now (room .entry)) ⌝ }
+    ensures least { λ r. ⌜ (Valid (now (sheet .entry)) → maxNodes ≤ length (now (room .entry)) → LeastBudgets (now (sheet .entry)) r (now (room .exit))) ⌝ }
+{
+    budgets::find_budgets(sheet, room)
 }
 
 // The replay of a log from tick 0 up to a horizon: turns started, the tick the next would start, and a begin tick for each release

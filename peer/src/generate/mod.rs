@@ -1,6 +1,7 @@
 //! Cases for comparing two programs: generated ones, each of which can be run
 //! again by its seed and index, and named ones for the far ends.
 
+mod budgets;
 mod deadlines;
 mod faults;
 mod full;
@@ -8,9 +9,11 @@ mod loads;
 mod logs;
 mod long;
 mod named;
+mod named_budgets;
 mod named_full;
 mod named_tables;
 mod random;
+mod rounds;
 mod sheets;
 mod tables;
 
@@ -22,8 +25,10 @@ use logs::{ordered_log, Traffic};
 use random::Random;
 use sheets::{valid_sheet, Valid};
 
+pub use budgets::{budgets_case, many_rounds, BudgetsCase, MOST_TRIES_A_ROW};
 pub(crate) use deadlines::total_tries;
 pub use named::named;
+pub use named_budgets::named_budgets;
 pub use named_tables::named_tables;
 pub use tables::{tables_case, TablesCase};
 

@@ -53,7 +53,7 @@ pub(super) fn slot_length(random: &mut Random) -> u32 {
     }
 }
 
-fn node_count(random: &mut Random) -> u64 {
+pub(super) fn node_count(random: &mut Random) -> u64 {
     match random.weighted(&[20, 45, 30, 5]) {
         0 => 1,
         1 => random.between(2, 4),

@@ -9,7 +9,7 @@ use crate::sheet::Bus;
 use crate::Answer;
 
 const JUST_IN_TIME: &str = "just in time";
-const LATE_BY_ONE: &str = "late by one tick";
+pub(super) const LATE_BY_ONE: &str = "late by one tick";
 
 /// Whether a stream is delivered just at its deadline or one tick after it,
 /// and after how many cycles.

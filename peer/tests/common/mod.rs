@@ -3,9 +3,9 @@
 
 use std::fmt::Debug;
 
-use peer::generate::{case, named, named_tables, Case, TablesCase};
+use peer::generate::{case, named, named_budgets, named_tables, BudgetsCase, Case, TablesCase};
 use peer::stats::Figures;
-use peer::{admit, one_stream, replay, write_sheet, Answer, Tables};
+use peer::{admit, find_budgets, one_stream, replay, write_sheet, Answer, Tables};
 
 pub const NOT_BEGUN: u32 = peer::NOT_BEGUN;
 
@@ -216,6 +216,44 @@ pub fn written_by(writer: Writer, case: &TablesCase) -> (Answer, Vec<u32>) {
     (given, room)
 }
 
+/// A search for budgets, good or broken.
+pub type Find = fn(&[u32], &mut [u32]) -> Answer;
+
+/// The answer of a search for budgets on a case, and what it leaves of the room.
+pub fn found_by(find: Find, case: &BudgetsCase) -> (Answer, Vec<u32>) {
+    let mut room = case.room.clone();
+    let given = find(&case.sheet, &mut room);
+    (given, room)
+}
+
+/// Finds budgets in a room with two words to spare; those two must stay. Answers
+/// the row without the words past the last node, which must be 0 if it is found.
+pub fn found(sheet: &[u32]) -> (Answer, Vec<u32>) {
+    let mut room = vec![OLD; 18];
+    let given = find_budgets(sheet, &mut room);
+    assert_eq!(room[16..], [OLD, OLD], "words past the row");
+    if given.number != 0 {
+        assert_eq!(room, [OLD; 18], "a refusal changes no word");
+        return (given, vec![]);
+    }
+    let nodes = sheet[0] as usize;
+    assert!(room[nodes..16].iter().all(|&word| word == 0), "{room:?}");
+    room.truncate(nodes);
+    (given, room)
+}
+
+/// The places of the budgets in a valid sheet.
+pub fn budget_places(sheet: &[u32]) -> impl Iterator<Item = usize> {
+    (0..sheet[0] as usize).map(|node| 3 + 3 * node + 2)
+}
+
+/// A valid sheet with other budgets.
+pub fn with_budgets(sheet: &[u32], budgets: &[u32]) -> Vec<u32> {
+    let places = budget_places(sheet).zip(budgets);
+    let changes: Vec<(usize, u32)> = places.map(|(place, &budget)| (place, budget)).collect();
+    with(sheet, &changes)
+}
+
 /// The named case that has this name.
 pub fn named_case(name: &str) -> Case {
     let mut all = named().into_iter();
@@ -225,6 +263,12 @@ pub fn named_case(name: &str) -> Case {
 /// The named tables that have this name.
 pub fn named_tables_case(name: &str) -> TablesCase {
     let mut all = named_tables().into_iter();
+    all.find(|case| case.0 == name).expect(name).1
+}
+
+/// The named case for the search for budgets that has this name.
+pub fn named_budgets_case(name: &str) -> BudgetsCase {
+    let mut all = named_budgets().into_iter();
     all.find(|case| case.0 == name).expect(name).1
 }
 

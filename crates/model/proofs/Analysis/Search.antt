@@ -87,6 +87,25 @@ module _ (H : ℕ → ℕ) (t : Timing) where
       (λ less. search-on tries from (below-least h from less) ∙ listed-from h tries (suc from) less (omega arith))
       (eq-or-lt-of-le low)
 
+  -- A search that ends late has tried nothing that suffices.
+  passed-late : (tries from : ℕ)
+      → search H t tries from ≡ Late
+      → (i : ℕ)
+      → from ≤ i
+      → i < from + tries
+      → Suffices H t i
+      → ⊥
+  passed-late zero from e i low high enough = omega arith
+  passed-late (suc tries) from e i low high enough =
+      by-cases
+      (decLt (H (from * t .cycle - 1)) (from * t .budget))
+      (λ here. late-not-listed e (search-found tries from here))
+      (λ short.
+      ⊎-elim
+      (λ same. short (rw same enough))
+      (λ later. passed-late tries (suc from) (sym (search-on tries from short) ∙ e) i later (omega arith) enough)
+      (eq-or-lt-of-le low))
+
 module _ (H : ℕ → ℕ) (t : Timing) (deadline : ℕ) (positive : 0 < t .cycle) where
   -- The verdict lists the wait that the stream has: a J in time is tried.
   has-verdict : {J w : ℕ} → HasWait H t deadline J w → verdict H t deadline ≡ Listed w J
@@ -127,3 +146,13 @@ module _ (H : ℕ → ℕ) (t : Timing) (deadline : ℕ) (positive : 0 < t .cycl
   -- The verdict is the literal one.
   pub verdict-exact : Exact H t deadline (verdict H t deadline)
   verdict-exact = record { listed = λ w J. (verdict-has, has-verdict); late = (verdict-is-late, late-verdict) }
+
+-- Where the verdict is late, nothing suffices that is worth a try.
+pub late-passed : (H : ℕ → ℕ) (t : Timing) (deadline i : ℕ)
+    → verdict H t deadline ≡ Late
+    → 1 ≤ i
+    → i ≤ triesWorth t deadline
+    → Suffices H t i
+    → ⊥
+unfolding verdict
+late-passed H t deadline i e one few = passed-late H t (triesWorth t deadline) 1 e i one (omega arith)

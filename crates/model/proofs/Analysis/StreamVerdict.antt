@@ -2,7 +2,7 @@
 use Prim.Native.Nat.{ℕ, pred, _-_, _*_, _≤_, _<_}
 use mathlib.Core.List.{List}
 use Rattle.model.specs.Sheet.{budget, deadline, cycle}
-use Rattle.model.specs.Analysis.{interference, IsLeastJ, higherStreams, timingOf, verdictOf}
+use Rattle.model.specs.Analysis.{interference, IsLeastJ, higherStreams, timingOf, verdictOf, verdictWith}
 use Rattle.model.proofs.Analysis.Interference.{interference-grows}
 use Rattle.model.proofs.Analysis.Wait.{place-exact}
 use Rattle.model.proofs.Analysis.Search.{Exact, verdict-exact}
@@ -10,7 +10,7 @@ use Rattle.model.proofs.Analysis.Search.{Exact, verdict-exact}
 module _ (s : List ℕ) (k j : ℕ) where
   pub stream-exact : 0 < cycle s
       → Exact (interference (higherStreams s k j)) (timingOf s k) (deadline s k j) (verdictOf s k j)
-  unfolding verdictOf
+  unfolding verdictWith
   stream-exact = verdict-exact (interference (higherStreams s k j)) (timingOf s k) (deadline s k j)
 
   pub stream-placed : {J : ℕ}

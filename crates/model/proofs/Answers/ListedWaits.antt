@@ -25,6 +25,12 @@ pub listed-accepted : (k j : ℕ) {v : Verdict} {wait cycles : ℕ} → v ≡ Li
 unfolding lateRefusal
 listed-accepted k j e = rw e refl
 
+-- One that is refused is late.
+pub is-late : (k j : ℕ) (v : Verdict) → (lateRefusal k j v .number ≡ 0 → ⊥) → (v ≡ Late) × (lateRefusal k j v ≡ refuse 7 k j)
+unfolding lateRefusal
+is-late k j Late refuses = (refl, refl)
+is-late k j (Listed wait J) refuses = absurd (refuses refl)
+
 module _ (s : List ℕ) (k : ℕ) where
   -- Refusal 7 of stream j.
   abbrev pub lateAt : ℕ → Answer

@@ -15,25 +15,20 @@ use Rattle.model.specs.declared.Verdict.the-variants.{Late, Listed}
 use Rattle.model.specs.Refusal.{success, refuse, _orElse_, firstOf}
 use Rattle.model.specs.Sheet.{word, nodes, streamCount, streamsBefore, totalStreams, runningNumber, cycle, sheetRefusal, OnSheet, Valid}
 use Rattle.model.specs.Analysis.{verdictOf}
-use Rattle.model.specs.Answers.{roomRefusal, lateRefusal, nodeLateRefusal, waitWord, listedWaits, admitAnswer, admitBuffer}
+use Rattle.model.specs.Answers.{roomRefusal, lateRefusal, nodeLateRefusal, nodeLateWith, waitWord, listedWaits, admitAnswer, admitBuffer}
 use Rattle.model.specs.Demand.{StreamWait, AllJudged}
 use Rattle.model.proofs.Sheet.Refusals.{orElse-on, orElse-stop, refuseIf-not, first-none, first-found}
 use Rattle.model.proofs.Answers.Buffer.{buffer-written}
+use Rattle.model.proofs.Answers.ListedWaits.{is-late}
 use Rattle.model.proofs.Answers.WaitWords.{listed-length, listed-at}
 use Rattle.model.proofs.Analysis.StreamVerdict.{stream-exact}
 use Rattle.model.proofs.Demand.OneStream.{positive}
 
--- A verdict that is not refused lists a wait,
+-- A verdict that is not refused lists a wait.
 not-late : (k j : ℕ) (v : Verdict) → lateRefusal k j v .number ≡ 0 → (wait J : ℕ) × (v ≡ Listed wait J)
 unfolding lateRefusal
 not-late k j Late e = absurd (omega arith)
 not-late k j (Listed wait J) e = (wait, J, refl)
-
--- and one that is refused is late.
-is-late : (k j : ℕ) (v : Verdict) → (lateRefusal k j v .number ≡ 0 → ⊥) → (v ≡ Late) × (lateRefusal k j v ≡ refuse 7 k j)
-unfolding lateRefusal
-is-late k j Late refuses = (refl, refl)
-is-late k j (Listed wait J) refuses = absurd (refuses refl)
 
 listed-word : {v : Verdict} {wait J : ℕ} → v ≡ Listed wait J → waitWord v ≡ wait
 unfolding waitWord
@@ -66,7 +61,7 @@ module _ (s : List ℕ) (valid : Valid s) where
       → 1 ≤ j
       → j ≤ streamCount s k
       → lateRefusal k j (verdictOf s k j) .number ≡ 0
-  unfolding nodeLateRefusal
+  unfolding nodeLateWith
   node-has k j e from upTo =
       first-none (λ i. lateRefusal k i (verdictOf s k i)) 1 (streamCount s k) e j from (omega arith)
 
@@ -88,7 +83,7 @@ module _ (s : List ℕ) (valid : Valid s) where
     streamsPassed : (j : ℕ) → 1 ≤ j → j < stream → lateRefusal node j (verdictOf s node j) .number ≡ 0
 
   refused : (lateness .number ≡ 0 → ⊥) → Refused lateness
-  unfolding nodeLateRefusal
+  unfolding nodeLateWith
   refused refuses =
       let n = first-found (nodeLateRefusal s) 1 (nodes s) refuses in
       let k = n .at in

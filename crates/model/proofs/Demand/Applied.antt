@@ -13,9 +13,9 @@ use Rattle.model.specs.declared.Answer.{Answer}
 use Rattle.model.specs.Limits.{notBegun}
 use Rattle.model.specs.Refusal.{refuseIf, _orElse_, firstOf, outside}
 use Rattle.model.specs.Sheet.{word, cycle, OnSheet, ticksOutside, countsOutside, timesOutside, rowWrong, rowRefusal, streamRefusal, bodyRefusal, headerRefusal, sheetRefusal}
-use Rattle.model.specs.Analysis.{streamOf, streamsFrom, outranks, above, mostReleases, interference, waitFor, search, verdict, higherStreams, verdictOf}
+use Rattle.model.specs.Analysis.{streamOf, streamsFrom, outranks, above, mostReleases, interference, waitFor, search, verdict, higherStreams, verdictWith}
 use Rattle.model.specs.Protocol.{KeepsPeriod, ofNode, queuedBefore, waiting, beginsFrom, serve, nextNode, nextBus, turn, start, stateAt, startOf, nodeOf, TurnsBefore, run, replayed}
-use Rattle.model.specs.Answers.{roomRefusal, tickBefore, releaseRefusal, logRefusal, horizonRefusal, unknownRefusal, verdictAnswer, lateRefusal, nodeLateRefusal, waitWord, bufferAfter, oneStreamAnswer, admitAnswer, admitBuffer, replayAnswer, stepped}
+use Rattle.model.specs.Answers.{roomRefusal, tickBefore, releaseRefusal, logRefusal, horizonRefusal, unknownRefusal, verdictAnswer, lateRefusal, nodeLateWith, waitWord, bufferAfter, oneStreamAnswer, admitAnswer, admitBuffer, replayAnswer, stepped}
 use Rattle.model.specs.Demand.{StreamWait, StreamLate, AllJudged, messagesOf, BeginsWithin, DeliveredBy, NextTurn, PeriodsKept, Premises, DueBefore, WholeReplay}
 use Rattle.model.specs.Bench.{sheetA, crowdedBy, logCrowded, logPeriodic}
 use Rattle.model.proofs.Protocol.Run.{turns-unique}
@@ -92,7 +92,7 @@ pub record Crowded (words : List ℕ) : Type 0 where
 
 pub crowded : (words : List ℕ) → WholeReplay A logCrowded 18 3 23 words → Crowded words
 unfolding
-    sheetA crowdedBy sum upTo cycle firstIn first firstOnes streamsFrom outranks above mostReleases interference waitFor search verdict verdictOf
+    sheetA crowdedBy sum upTo cycle firstIn first firstOnes streamsFrom outranks above mostReleases interference waitFor search verdict verdictWith
     ofNode queuedBefore waiting beginsFrom serve nextNode nextBus turn start stateAt
 crowded words whole =
     let due : DueBefore A logCrowded 18 1 1 16 4 = record { inLog = omega arith; ofStream = refl; inTime = omega arith } in
@@ -166,7 +166,7 @@ once-second (suc (suc (suc (suc a)))) b s = absurd (omega (arith, s .ordered, s 
 
 -- The premises of demand 3 for stream 2, whose J is 2.
 second-premises : Premises A logPeriodic 1 2 33 2
-unfolding sheetA logPeriodic sum upTo cycle streamsFrom outranks above mostReleases interference waitFor search verdict verdictOf
+unfolding sheetA logPeriodic sum upTo cycle streamsFrom outranks above mostReleases interference waitFor search verdict verdictWith
 second-premises =
     record {
       onSheet = on-node-1 40 40 60 2 (omega arith) (omega arith);
@@ -181,7 +181,7 @@ pub record Periodic (words : List ℕ) : Type 0 where
   pub first : BeginsWithin logPeriodic words 16 4
 
 pub periodic : (turns next : ℕ) (words : List ℕ) → WholeReplay A logPeriodic 57 turns next words → Periodic words
-unfolding sheetA logPeriodic sum upTo cycle streamsFrom outranks above mostReleases interference waitFor search verdict verdictOf
+unfolding sheetA logPeriodic sum upTo cycle streamsFrom outranks above mostReleases interference waitFor search verdict verdictWith
 periodic turns next words whole =
     record {
       second =
@@ -243,8 +243,8 @@ pub second : Second
 unfolding
     sheetA sum upTo cycle refuseIf _orElse_ firstOf outside
     ticksOutside countsOutside timesOutside rowWrong rowRefusal streamRefusal bodyRefusal headerRefusal sheetRefusal
-    streamsFrom outranks above mostReleases interference waitFor search verdict verdictOf
-    unknownRefusal verdictAnswer oneStreamAnswer roomRefusal lateRefusal nodeLateRefusal waitWord valuesFrom joinedFrom bufferAfter admitAnswer admitBuffer
+    streamsFrom outranks above mostReleases interference waitFor search verdict verdictWith
+    unknownRefusal verdictAnswer oneStreamAnswer roomRefusal lateRefusal nodeLateWith waitWord valuesFrom joinedFrom bufferAfter admitAnswer admitBuffer
 second =
     let judged = demand2 .oneStream A refl 1 2 (on-node-1 40 40 60 2 (omega arith) (omega arith)) in
     let judged38 = demand2 .oneStream A38 refl 1 2 (on-node-1 40 38 38 2 (omega arith) (omega arith)) in
@@ -267,7 +267,7 @@ none-late : (k j : ℕ) → OnSheet A k j → StreamLate A k j → ⊥
 unfolding
     sheetA sum upTo cycle refuseIf _orElse_ firstOf outside
     ticksOutside countsOutside timesOutside rowWrong rowRefusal streamRefusal bodyRefusal headerRefusal sheetRefusal
-    streamsFrom outranks above mostReleases interference waitFor search verdict verdictOf
+    streamsFrom outranks above mostReleases interference waitFor search verdict verdictWith
     unknownRefusal verdictAnswer oneStreamAnswer
 none-late zero j on late = omega (arith, on .nodeFrom)
 none-late (suc zero) zero on late = omega (arith, on .streamFrom)

@@ -9,7 +9,7 @@ use Rattle.theory.specs.Sum.{sum, upTo}
 use Rattle.theory.specs.Queue.{firstIn, first, firstOnes}
 use Rattle.model.specs.Refusal.{refuseIf, _orElse_, firstOf, outside}
 use Rattle.model.specs.Sheet.{word, cycle, OnSheet, ticksOutside, countsOutside, timesOutside, rowWrong, rowRefusal, streamRefusal, bodyRefusal, headerRefusal, sheetRefusal}
-use Rattle.model.specs.Analysis.{streamOf, streamsFrom, outranks, above, mostReleases, interference, waitFor, search, verdict, verdictOf}
+use Rattle.model.specs.Analysis.{streamOf, streamsFrom, outranks, above, mostReleases, interference, waitFor, search, verdict, verdictWith}
 use Rattle.model.specs.Protocol.{KeepsPeriod, ofNode, queuedBefore, waiting, beginsFrom, serve, nextNode, nextBus, turn, start, stateAt, startOf, run, replayed}
 use Rattle.model.specs.Answers.{roomRefusal, tickBefore, releaseRefusal, logRefusal, horizonRefusal, replayAnswer}
 use Rattle.model.specs.Demand.{DeliveredBy, Premises, WholeReplay}
@@ -39,7 +39,7 @@ none-above (suc (suc zero)) on e = false≢true e
 none-above (suc (suc (suc i))) on e = omega (arith, on .streamTo)
 
 premises : Premises Pair logPair 2 1 16 1
-unfolding sheetPair sum upTo cycle streamsFrom outranks above mostReleases interference waitFor search verdict verdictOf
+unfolding sheetPair sum upTo cycle streamsFrom outranks above mostReleases interference waitFor search verdict verdictWith
 premises =
     record {
       onSheet = record { nodeFrom = omega arith; nodeTo = omega arith; streamFrom = omega arith; streamTo = omega arith };

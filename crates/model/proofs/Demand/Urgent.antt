@@ -9,7 +9,7 @@ use Rattle.theory.specs.Queue.{firstIn, first, firstOnes}
 use Rattle.model.specs.Limits.{notBegun}
 use Rattle.model.specs.Refusal.{refuseIf, _orElse_, firstOf, outside}
 use Rattle.model.specs.Sheet.{word, cycle, ticksOutside, countsOutside, timesOutside, rowWrong, rowRefusal, streamRefusal, bodyRefusal, headerRefusal, sheetRefusal}
-use Rattle.model.specs.Analysis.{streamsFrom, outranks, above, mostReleases, interference, waitFor, search, verdict, verdictOf}
+use Rattle.model.specs.Analysis.{streamsFrom, outranks, above, mostReleases, interference, waitFor, search, verdict, verdictWith}
 use Rattle.model.specs.Protocol.{ofNode, queuedBefore, waiting, beginsFrom, serve, nextNode, nextBus, turn, start, stateAt, run, replayed}
 use Rattle.model.specs.Answers.{roomRefusal, tickBefore, releaseRefusal, logRefusal, horizonRefusal, unknownRefusal, verdictAnswer, oneStreamAnswer, replayAnswer}
 use Rattle.model.specs.Demand.{StreamWait, BeginsWithin, PeriodsKept, WholeReplay}
@@ -35,7 +35,7 @@ pub urgent : (words : List ℕ) → WholeReplay P2 logUrgent 18 3 23 words → U
 unfolding
     sheetA crowdedBy sum upTo cycle firstIn first firstOnes refuseIf _orElse_ firstOf outside
     ticksOutside countsOutside timesOutside rowWrong rowRefusal streamRefusal bodyRefusal headerRefusal sheetRefusal
-    streamsFrom outranks above mostReleases interference waitFor search verdict verdictOf
+    streamsFrom outranks above mostReleases interference waitFor search verdict verdictWith
     ofNode queuedBefore waiting beginsFrom serve nextNode nextBus turn start stateAt
     unknownRefusal verdictAnswer oneStreamAnswer
 urgent words whole =

@@ -9,7 +9,7 @@ use native.Mathlib.Omega.{arith}
 use borrow.Author.Needs.{needs}
 use lib.ListN.{length, take, length-set}
 use Rattle.model.specs.Refusal.{firstOf}
-use Rattle.model.specs.Answers.{nodeLateRefusal, waitsFrom}
+use Rattle.model.specs.Answers.{nodeLateRefusal, nodeLateWith, waitsFrom}
 use Rattle.model.proofs.Sheet.Refusals.{rest, rest-start, rest-on, rest-stop, rest-end}
 use Rattle.analysis.proofs.Filling.{fill-one, fill-end}
 use Rattle.model.proofs.Answers.ListedWaits.{late-refused, listed-accepted, lateAt, waitsLeft, waits-all, waits-next, waits-none}
@@ -30,7 +30,7 @@ stream-count-requires : tie.Need-stream-count-requires Inv-loop μ-loop
 stream-count-requires c κs = search needs
 
 loop-holds : tie.Need-loop-holds Inv-loop μ-loop
-unfolding nodeLateRefusal
+unfolding nodeLateWith
 loop-holds c =
     let a = c .before .before .before .args in
     let row = lateAt (a .sheet .now) (a .k) in (

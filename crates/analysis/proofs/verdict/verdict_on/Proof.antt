@@ -1,67 +1,29 @@
--- `analysis::verdict::verdict_on` meets its contract: the verdict by the periods of those above is the definition's. Assumes nothing.
+-- `analysis::verdict::verdict_on` meets its contract: the cycle and the budget are the sheet's. Assumes nothing.
+use mathlib.Core.Path.{ap₂, _∙_}
 use borrow.Author.Needs.{needs}
-use mathlib.Core.Path.{sym, ap, _∙_}
-use native.Mathlib.Omega.{arith}
-use lib.Seq.{length-take-le}
-use Rattle.model.specs.declared.Stream.{Stream}
+use Rattle.model.specs.Analysis.{verdictWith}
 use Rattle.model.proofs.Sheet.ValidSheet.{valid-fits}
-use Rattle.analysis.specs.Periods.{higherPeriods}
-use Rattle.analysis.proofs.Periods.{verdict-periods}
-use Rattle.analysis.proofs.InRange.{above-divisors, node-ranges, deadline-range}
+use Rattle.analysis.proofs.InRange.{own-shares}
 use Rattle.analysis.proofs.verdict.verdict_on.Statement.{statement}
 use Rattle.analysis.proofs.verdict.verdict_on.Tie as tie
 
-stream-of-requires : tie.Need-stream-of-requires
-stream-of-requires c κs = search needs
+budget-of-requires : tie.Need-budget-of-requires
+budget-of-requires c κs = search needs
 
-timing-of-requires : tie.Need-timing-of-requires
-timing-of-requires c κs = c .before .before .pre .2
-
-slice-aggregate-higher-periods : tie.Need-slice-aggregate-higher-periods
-slice-aggregate-higher-periods c = search needs
-
-higher-periods-requires : tie.Need-higher-periods-requires
-higher-periods-requires c κs = let p = c .before .before .before .before .pre in (p .0, p .1 .nodeFrom, p .1 .nodeTo, search needs)
-
-array-share-prefix-higher : tie.Need-array-share-prefix-higher
-array-share-prefix-higher c = search needs
-
-slice-aggregate-verdict-by : tie.Need-slice-aggregate-verdict-by
-slice-aggregate-verdict-by c =
-    let found = c .before .before .higher-periods in
-    sym (length-take-le (found .result) (found .last .1 .1 .1 .0) (omega (arith, found .ensures .0, found .kept .1 .1 .1 .0)))
-
-verdict-by-requires : tie.Need-verdict-by-requires
-verdict-by-requires c κs =
-    let a = c .before .before .before .before .before .before .before .args in
-    let p = c .before .before .before .before .before .before .before .pre in
-    let s = a .sheet .now in
-    let fits = valid-fits s (p .0) in (
-      rw (c .before .before .higher-periods .ensures .1) (above-divisors s (a .k) (c .before .before .before .before .before .stream-of .result) fits (p .1 .nodeFrom) (p .1 .nodeTo)),
-      rw (c .before .before .before .before .timing-of .ensures) (node-ranges s (a .k) fits (p .1 .nodeFrom) (p .1 .nodeTo)),
-      rw (c .before .before .before .before .before .stream-of .ensures) (deadline-range s (a .k) (a .j) fits (p .1)),
+verdict-with-requires : tie.Need-verdict-with-requires
+verdict-with-requires c κs =
+    let a = c .before .before .args in
+    let p = c .before .before .pre in
+    let s = a .sheet .now in (
+      p .0,
+      p .1,
+      rw (p .2, c .budget-of .ensures) (own-shares s (a .k) (valid-fits s (p .0)) (p .1 .nodeFrom) (p .1 .nodeTo)),
     )
 
 returns : tie.Need-returns
 returns c =
-    let a = c .before .before .before .before .before .before .before .before .args in
-    let s = a .sheet .now in
-    let stream = c .before .before .before .before .before .before .stream-of .ensures in
-    verdict-periods s (a .k) (a .j)
-    (c .before .before .before .higher-periods .ensures .1 ∙ ap (higherPeriods s (a .k)) stream)
-    (c .before .before .before .before .before .timing-of .ensures)
-    (ap (λ (x : Stream). x .deadline) stream)
-    (c .verdict-by .ensures)
+    let a = c .before .before .before .args in
+    c .verdict-with .ensures ∙ ap₂ (λ C m. verdictWith (a .sheet .now) C m (a .k) (a .j)) (c .before .before .before .pre .2) (c .before .budget-of .ensures)
 
 pub verdict-on-spec : {M : Type 1} → statement M
-verdict-on-spec =
-    tie.close
-    (tie.spec
-    stream-of-requires
-    timing-of-requires
-    slice-aggregate-higher-periods
-    higher-periods-requires
-    array-share-prefix-higher
-    slice-aggregate-verdict-by
-    verdict-by-requires
-    returns)
+verdict-on-spec = tie.close (tie.spec budget-of-requires verdict-with-requires returns)

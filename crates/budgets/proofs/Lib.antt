@@ -1,0 +1,10 @@
+-- Laws about the rounds, in the order in which they build on each other.
+pub mod Rows
+pub mod Ranges
+pub mod Under
+pub mod Judging
+pub mod Settling
+pub mod Playing
+pub mod Least
+pub mod Promise
+pub mod Applied
