@@ -3,8 +3,8 @@
 //! `bench replay`, `bench write`, `bench budgets`. Each figure is the median of
 //! nine runs over the same inputs (`bench search` and `bench hardest` time the
 //! second program, which searches for J one by one, in one run); rooms are not
-//! cleared between runs. `bench slowest NODES SECONDS SEED` looks for sheets on
-//! which the proved search is slow.
+//! cleared between runs. `bench slowest WHAT SECONDS SEED` looks for sheets on
+//! which the proved search is slow: WHAT is `stream`, `sheet` or `budgets`.
 
 mod budgets;
 mod search;
@@ -330,30 +330,39 @@ fn write() {
     write_pair("sheet A", &tables_a);
 }
 
-/// The three numbers after `slowest`, or a few seconds for a sheet of one node.
-fn look() {
+/// Looks for slow sheets, if what is asked of them is known.
+fn look(asked: Option<&str>) -> bool {
+    let asked = match asked {
+        Some("stream") => slowest::Sought::Stream,
+        Some("sheet") => slowest::Sought::Sheet,
+        Some("budgets") => slowest::Sought::Budgets,
+        _ => return false,
+    };
     let number = |place, unset| {
         let given = std::env::args().nth(place);
         given.and_then(|text| text.parse().ok()).unwrap_or(unset)
     };
-    slowest::slowest(number(2, 1) as u32, number(3, 10), number(4, 1));
+    slowest::slowest(asked, number(3, 10), number(4, 1));
+    true
+}
+
+fn usage() -> ExitCode {
+    eprintln!("usage: bench admit | search | hardest | replay | write | budgets");
+    eprintln!("       bench slowest stream|sheet|budgets SECONDS SEED");
+    ExitCode::from(2)
 }
 
 fn main() -> ExitCode {
-    match std::env::args().nth(1).as_deref() {
+    let mut words = std::env::args().skip(1);
+    match words.next().as_deref() {
         Some("admit") => admit(),
         Some("search") => search::search(),
         Some("hardest") => search::hardest(),
-        Some("slowest") => look(),
         Some("replay") => replay(),
         Some("write") => write(),
         Some("budgets") => budgets::budgets(),
-        _ => {
-            eprintln!(
-                "usage: bench admit | search | hardest | slowest NODES SECONDS SEED | replay | write | budgets"
-            );
-            return ExitCode::from(2);
-        }
+        Some("slowest") if look(words.next().as_deref()) => {}
+        _ => return usage(),
     }
     ExitCode::SUCCESS
 }

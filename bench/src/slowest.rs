@@ -9,34 +9,51 @@ use crate::{sheet, Random};
 
 const LONGEST: u32 = 1_000_000_000;
 
+/// What is asked of a sheet: the lowest stream of its one node; all waits of
+/// sixteen nodes alike; or the least budgets of sixteen nodes alike.
+#[derive(Clone, Copy)]
+pub enum Sought {
+    Stream,
+    Sheet,
+    Budgets,
+}
+
 /// A node as it is tried: its budget, and the periods of fifteen streams above
 /// one of the longest period.
 #[derive(Clone)]
 struct Guess {
-    nodes: u32,
+    asked: Sought,
     budget: u32,
     periods: [u32; 15],
 }
 
 impl Guess {
-    /// The full cycle of so many nodes alike, with messages and slots of a tick.
+    fn nodes(&self) -> u32 {
+        match self.asked {
+            Sought::Stream => 1,
+            Sought::Sheet | Sought::Budgets => 16,
+        }
+    }
+
+    /// The full cycle of the nodes, with messages and slots of a tick.
     fn cycle(&self) -> f64 {
-        f64::from(self.nodes * (self.budget + 1))
+        f64::from(self.nodes() * (self.budget + 1))
     }
 
     fn words(&self) -> Vec<u32> {
         let mut streams: Vec<(u32, u32)> = self.periods.iter().map(|&p| (p, p)).collect();
         streams.push((LONGEST, LONGEST));
         let node = (self.budget, streams);
-        sheet(1, 1, &vec![node; self.nodes as usize])
+        sheet(1, 1, &vec![node; self.nodes() as usize])
     }
 
-    /// Of one node the lowest stream is asked for, whatever the answer; of more
-    /// the whole sheet, which has to be admitted.
+    /// The answer counts whatever it is, but a whole sheet has to be admitted:
+    /// a refusal ends the look at it.
     fn counts(&self, words: &[u32], room: &mut [u32]) -> bool {
-        match self.nodes {
-            1 => wistorvan::raw::one_stream(words, 1, 16).number != 8,
-            _ => wistorvan::raw::admit(words, room).number == 0,
+        match self.asked {
+            Sought::Stream => wistorvan::raw::one_stream(words, 1, 16).number != 8,
+            Sought::Sheet => wistorvan::raw::admit(words, room).number == 0,
+            Sought::Budgets => wistorvan::raw::find_budgets(words, room).number != 6,
         }
     }
 
@@ -80,13 +97,13 @@ fn any_period(random: &mut Random) -> u32 {
     (2 + random.below(1 << digits)).min(u64::from(LONGEST)) as u32
 }
 
-fn first_guess(nodes: u32, random: &mut Random) -> Guess {
+fn first_guess(asked: Sought, random: &mut Random) -> Guess {
     let budget = match random.below(2) {
         0 => 1,
         _ => 1 + random.below(16) as u32,
     };
     let mut guess = Guess {
-        nodes,
+        asked,
         budget,
         periods: [LONGEST; 15],
     };
@@ -121,13 +138,13 @@ fn changed(guess: &Guess, random: &mut Random) -> Guess {
 
 /// Looks for so many seconds, and prints each sheet that is slower than all
 /// before it.
-pub fn slowest(nodes: u32, seconds: u64, seed: u64) {
+pub fn slowest(asked: Sought, seconds: u64, seed: u64) {
     let end = Instant::now() + Duration::from_secs(seconds);
     let mut random = Random(seed.max(1));
     let mut room = [0; 256];
     let mut most = Duration::ZERO;
     while Instant::now() < end {
-        let mut guess = first_guess(nodes, &mut random);
+        let mut guess = first_guess(asked, &mut random);
         let mut time = guess.time(&mut room);
         let mut since = 0;
         while since < 400 && Instant::now() < end {

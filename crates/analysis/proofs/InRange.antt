@@ -15,7 +15,7 @@ use Rattle.model.proofs.Sheet.ValidSheet.{SheetFits}
 use Rattle.model.proofs.Sheet.NodeSums.{cycle-least, cycle-most}
 use Rattle.model.proofs.Analysis.NodeStreams.{streams-length, above-length}
 use Rattle.analysis.specs.Periods.{periodsOf}
-use Rattle.wait.specs.InRange.{Divisors, Shares, Ranges}
+use Rattle.wait.specs.InRange.{Divisors, CycleAndBudget, Ranges}
 use Rattle.analysis.specs.Body.{Body}
 
 -- The body of a node has no more streams than a node may have.
@@ -72,7 +72,7 @@ module _ (s : List ℕ) (k : ℕ) (x : Stream) where
       }
 
 -- The sheet's own cycle and budget are as a node can have them,
-pub own-shares : (s : List ℕ) (k : ℕ) → SheetFits s → 1 ≤ k → k ≤ nodes s → Shares (cycle s) (budget s k)
+pub own-shares : (s : List ℕ) (k : ℕ) → SheetFits s → 1 ≤ k → k ≤ nodes s → CycleAndBudget (cycle s) (budget s k)
 own-shares s k fits low high =
     record {
       cycleFrom = cycle-least s fits;
@@ -82,13 +82,10 @@ own-shares s k fits low high =
     }
 
 -- with such the timing is in range,
-pub timing-ranges : (s : List ℕ) (C m : ℕ) → SheetFits s → Shares C m → Ranges (timingWith s C m)
+pub timing-ranges : (s : List ℕ) (C m : ℕ) → SheetFits s → CycleAndBudget C m → Ranges (timingWith s C m)
 timing-ranges s C m fits shares =
     record {
-      cycleFrom = shares .cycleFrom;
-      cycleTo = shares .cycleTo;
-      budgetFrom = shares .budgetFrom;
-      budgetTo = shares .budgetTo;
+      shares = shares;
       messageTo = fits .header .messageTo;
       slotTo = fits .header .slotTo;
       messagesTo = mul-le-mul (shares .budgetTo) (fits .header .messageTo);

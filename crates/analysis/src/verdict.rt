@@ -2,7 +2,7 @@
 ghost use mathlib.Core.Path.{_≡_};
 ghost use Rattle.model.specs.Sheet.{cycle as fullCycle, OnSheet, Valid};
 ghost use Rattle.model.specs.Analysis.{timingWith, verdictWith, verdictOf};
-ghost use Rattle.wait.specs.InRange.{Shares};
+ghost use Rattle.wait.specs.InRange.{CycleAndBudget};
 use crate::higher::higher_periods;
 use layout::budget_of;
 use layout::stream_of;
@@ -25,7 +25,7 @@ fn timing_with(sheet: &[u32], cycle: u32, budget: u32) -> Timing
 
 // The verdict on stream j of node k with that full cycle and budget.
 pub fn verdict_with(sheet: &[u32], cycle: u32, budget: u32, k: u32, j: u32) -> Verdict
-    requires { ⌜ Valid (now sheet) × OnSheet (now sheet) k j × Shares cycle budget ⌝ }
+    requires { ⌜ Valid (now sheet) × OnSheet (now sheet) k j × CycleAndBudget cycle budget ⌝ }
     ensures { λ r. ⌜ r ≡ verdictWith (now (sheet .entry)) cycle budget k j ⌝ }
 {
     let stream = stream_of(sheet, k, j);

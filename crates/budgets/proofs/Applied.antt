@@ -1,6 +1,7 @@
 -- "Find the budgets" with numbers: what the definitions answer on two lines, and what request Five, whoever keeps it, says there.
 -- Assumes nothing.
 use Prim.Native.Nat.{ℕ, zero, suc, _≤_}
+use native.Mathlib.Nat.{le-refl}
 use native.Mathlib.Omega.{arith}
 use mathlib.Core.Path.{_≡_, refl, ap}
 use mathlib.Core.List.{List, [], _∷_}
@@ -13,10 +14,10 @@ use Rattle.model.specs.Sheet.{cycle, ticksOutside, countsOutside, timesOutside,
 use Rattle.model.specs.Analysis.{streamsFrom, outranks, above, mostReleases, interference, waitFor, search, verdict, verdictWith}
 use Rattle.model.specs.Answers.{roomRefusal, lateRefusal, nodeLateWith, bufferAfter, admitAnswer}
 use Rattle.model.specs.Bench.{sheetA}
-use Rattle.budgets.specs.Rounds.{budgetIn, Admits, firstRow, raised, fullRefusal, stuckRefusal, goesOn, rounds, lastRow}
+use Rattle.budgets.specs.Rounds.{budgetIn, ownRow, Admits, firstRow, raised, fullRefusal, stuckRefusal, goesOn, rounds, lastRow}
 use Rattle.budgets.specs.Answer.{findAnswer, findBuffer}
 use Rattle.budgets.specs.Least.{OneToSixteen, LeastBudgets}
-use Rattle.budgets.proofs.Promise.{least-budgets}
+use Rattle.budgets.proofs.Promise.{least-budgets, own-admits}
 
 -- "Sheet A".
 unfoldable pub A : List ℕ
@@ -37,7 +38,8 @@ pub record Cases : Type 0 where
   pub refused : admitAnswer (line 49) 8 ≡ refuse 7 1 2
   pub answerLine : findAnswer (line 49) 16 ≡ success 5 28
   pub rowLine : findBuffer (line 49) (replicate 16 9) ≡ (2 ∷ 2 ∷ 1 ∷ 0 ∷ 0 ∷ 0 ∷ 0 ∷ 0 ∷ 0 ∷ 0 ∷ 0 ∷ 0 ∷ 0 ∷ 0 ∷ 0 ∷ 0 ∷ [])
-  -- no row works; 6 comes before 11, whatever n is
+  -- the sheet is read before the room, and 6 comes before 11, whatever n is; no row works
+  pub unread : findAnswer [] 0 ≡ refuse 1 0 0
   pub stuck : findAnswer (line 19) 16 ≡ refuse 11 1 0
   pub short : findAnswer (line 19) 15 ≡ refuse 6 0 0
 
@@ -49,7 +51,7 @@ unfolding
     streamsFrom outranks above mostReleases interference waitFor search verdict verdictWith
     roomRefusal lateRefusal nodeLateWith bufferAfter admitAnswer
     firstRow raised fullRefusal stuckRefusal goesOn rounds lastRow findAnswer findBuffer
-cases = record { answerA = refl; rowA = refl; refused = refl; answerLine = refl; rowLine = refl; stuck = refl; short = refl }
+cases = record { answerA = refl; rowA = refl; refused = refl; answerLine = refl; rowLine = refl; unread = refl; stuck = refl; short = refl }
 
 -- Both sheets are valid, and what else computes of them.
 record Facts : Type 0 where
@@ -57,6 +59,8 @@ record Facts : Type 0 where
   onesA : Admits A (1 ∷ 1 ∷ [])
   ownA : admitAnswer A (totalStreams A) .number ≡ 0
   validLine : Valid (line 19)
+  validOwn : Valid (line 49)
+  eight : totalStreams (line 49) ≤ 8
 
 facts : Facts
 unfolding
@@ -65,7 +69,7 @@ unfolding
     cycle ticksOutside countsOutside timesOutside rowWrong rowRefusal streamRefusal bodyRefusal headerRefusal sheetRefusal
     streamsFrom outranks above mostReleases interference waitFor search verdict verdictWith
     roomRefusal lateRefusal nodeLateWith bufferAfter admitAnswer
-facts = record { validA = refl; onesA = refl; ownA = refl; validLine = refl }
+facts = record { validA = refl; onesA = refl; ownA = refl; validLine = refl; validOwn = refl; eight = le-refl 8 }
 
 -- A number from 1 to n is one of them.
 one-or-two : (P : ℕ → Type 0) (k : ℕ) → P 1 → P 2 → 1 ≤ k → k ≤ 2 → P k
@@ -90,10 +94,12 @@ module _ (answer : Answer) (words : List ℕ) where
         ),
       )
 
-  -- It needs no more than sheet A has, and admits it.
-  pub own-a : LeastBudgets A answer words → Admits A words × (budgetIn words 2 ≤ 2)
+  -- It needs no more than sheet A has, admits it, and is of 1 to 16.
+  pub own-a : LeastBudgets A answer words → Admits A words × ((budgetIn words 2 ≤ 2) × (budgetIn words 1 ≤ 16))
   unfolding A sheetA
-  own-a five = let own = five .own (facts .ownA) in (five .admits (own .0), own .1 2 (omega arith) (omega arith))
+  own-a five =
+      let own = five .own (facts .ownA) in
+      (five .admits (own .0), (own .1 2 (omega arith) (omega arith), five .range (own .0) 1 (omega arith) (omega arith) .1))
 
   -- Where no row works it says so.
   pub none-line : LeastBudgets (line 19) answer words → answer .number ≡ 11
@@ -101,3 +107,9 @@ module _ (answer : Answer) (words : List ℕ) where
       let room : List ℕ = replicate 16 9 in
       let ours = least-budgets (line 19) room (facts .validLine) (omega arith) in
       five .none .1 (ours .none .0 (ap (λ (a : Answer). a .number) (cases .stuck)))
+
+-- The line's own row, 2, 1 and 4, does not admit it: admit refuses it.
+pub own-line : Admits (line 49) (ownRow (line 49)) → ⊥
+own-line admits =
+    let taken = own-admits (line 49) 8 (facts .validOwn) (facts .eight) .1 admits in
+    omega (arith, taken, ap (λ (a : Answer). a .number) (cases .refused))

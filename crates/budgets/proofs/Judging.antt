@@ -1,4 +1,4 @@
--- A round as a loop plays it: whether a stream is late, node by node. Assumes nothing.
+-- A round as a loop runs it: whether a stream is late, node by node. Assumes nothing.
 use Prim.Native.Nat.{ℕ, _+_, _≤_, _<_}
 use native.Mathlib.Nat.{eq-or-lt-of-le}
 use native.Mathlib.Omega.{arith}

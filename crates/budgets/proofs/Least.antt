@@ -8,7 +8,6 @@ use mathlib.Core.Bool.{Bool, true, false, _&&_, not}
 use mathlib.Core.List.{List}
 use lib.Dec.{eqb, leb}
 use borrow.Author.Tests.{eqb-true, eq-eqb, leb-true}
-use Rattle.theory.proofs.Sums.{sumTo-least}
 use Rattle.model.specs.declared.Answer.{Answer}
 use Rattle.model.specs.Limits.{maxNodes, maxBudget}
 use Rattle.model.specs.Refusal.{refuse, accepted, refuseIf, firstOf}
@@ -17,9 +16,9 @@ use Rattle.model.proofs.Sheet.Refusals.{first-found}
 use Rattle.model.proofs.Sheet.ValidSheet.{SheetFits}
 use Rattle.budgets.specs.Rounds.{budgetIn, rowCycle, lateWith, Admits, hasLate, firstRow, fullRefusal, stuckRefusal, goesOn, rounds, maxRounds, lastRow}
 use Rattle.budgets.specs.Least.{OneToSixteen, AtMost}
-use Rattle.budgets.proofs.Rows.{first-in}
+use Rattle.budgets.proofs.Rows.{row-in}
 use Rattle.budgets.proofs.Under.{late-less, raised-under}
-use Rattle.budgets.proofs.Settling.{raised-range, rounds-keep, settled}
+use Rattle.budgets.proofs.Settling.{raised-range, first-range, first-enough, rounds-keep, settled}
 
 module _ (s : List ℕ) (fits : SheetFits s) where
   few : nodes s ≤ maxNodes
@@ -29,27 +28,22 @@ module _ (s : List ℕ) (fits : SheetFits s) where
   positive : (row : List ℕ) → 0 < rowCycle s row
   positive row = omega (arith, one-le-mul (fits .header .nodesFrom) (fits .header .slotFrom))
 
-  first-range : OneToSixteen s (firstRow s)
-  first-range k one inside = let e = first-in s few k one inside in (omega (arith, e), omega (arith, e))
-
   -- The row has budgets from 1 to 16,
   pub last-range : OneToSixteen s (lastRow s)
   unfolding lastRow
-  last-range = rounds-keep s few (OneToSixteen s) (λ row on range. raised-range s few row on range) maxRounds (firstRow s) first-range
+  last-range = rounds-keep s few (OneToSixteen s) (λ row on range. raised-range s few row on range) maxRounds (firstRow s) (first-range s few)
 
   -- no round is to come after it,
   last-settled : goesOn s (lastRow s) ≡ false
   unfolding lastRow
-  last-settled =
-      settled s few maxRounds (firstRow s) first-range
-      (omega (arith, few, sumTo-least (budgetIn (firstRow s)) (nodes s) (λ k one inside. first-range k one inside .0)))
+  last-settled = settled s few maxRounds (firstRow s) (first-range s few) (first-enough s few)
 
   -- and it is at or under every row that admits the sheet.
   pub last-under : (other : List ℕ) → OneToSixteen s other → Admits s other → AtMost s (lastRow s) other
-  unfolding lastRow
+  unfolding lastRow firstRow
   last-under other range admits =
       rounds-keep s few (λ row. AtMost s row other) (λ row on under. raised-under s row other few (positive row) under admits) maxRounds (firstRow s)
-      (λ k one inside. rw (first-in s few k one inside) (range k one inside .0))
+      (λ k one inside. rw (row-in s (λ i. 1) few k one inside) (range k one inside .0))
 
   -- Where no late node has 16 already, the row admits the sheet.
   pub last-admits : stuckRefusal s (lastRow s) .number ≡ 0 → Admits s (lastRow s)

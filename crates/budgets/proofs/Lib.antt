@@ -4,7 +4,7 @@ pub mod Ranges
 pub mod Under
 pub mod Judging
 pub mod Settling
-pub mod Playing
+pub mod Running
 pub mod Least
 pub mod Promise
 pub mod Applied

@@ -1,26 +1,26 @@
 -- What request Five says holds of what is answered and written; and admit's own test is that of the sheet's own row. Assumes nothing.
 use Prim.Native.Nat.{ℕ, pred, _+_, _≤_, _<_}
+use native.Mathlib.Nat.{le-refl}
 use native.Mathlib.Decide.{ℕ-discrete}
 use native.Mathlib.Omega.{arith}
-use mathlib.Core.Path.{_≡_, sym, ap, ap₂, _∙_}
+use mathlib.Core.Path.{_≡_, refl, sym, ap, ap₂, _∙_}
+use mathlib.Core.Logic.{_↔_}
 use mathlib.Core.List.{List}
 use lib.ListN.{length, List·getD-append}
 use borrow.Author.Tests.{le-ltb}
-use Rattle.theory.specs.Listing.{valuesFrom}
 use Rattle.theory.proofs.Sums.{sumTo-same}
-use Rattle.theory.proofs.Listing.{values-at}
 use Rattle.model.specs.declared.Answer.{Answer}
 use Rattle.model.specs.Limits.{maxNodes}
 use Rattle.model.specs.Refusal.{success, refuse, _orElse_, firstOf}
 use Rattle.model.specs.Sheet.{word, nodes, budget, budgetsUpTo, messageTicks, slotTicks, cycle, cycleTicks, totalStreams, sheetRefusal, Valid}
 use Rattle.model.specs.Answers.{roomRefusal, nodeLateRefusal, nodeLateWith, admitAnswer}
-use Rattle.model.proofs.Sheet.Refusals.{orElse-on, orElse-stop, orElse-both, refuseIf-not, first-none, first-all}
+use Rattle.model.proofs.Sheet.Refusals.{orElse-on, orElse-stop, orElse-both, orElse-none, refuseIf-not, first-none, first-all}
 use Rattle.model.proofs.Sheet.ValidSheet.{SheetFits, valid-fits}
 use Rattle.model.proofs.Answers.Buffer.{buffer-written}
-use Rattle.budgets.specs.Rounds.{budgetIn, rowSum, rowCycle, lateWith, Admits, firstRow, stuckRefusal, maxRounds, lastRow}
+use Rattle.budgets.specs.Rounds.{budgetIn, rowSum, rowCycle, lateWith, Admits, firstRow, raisedBudget, raised, ownRow, stuckRefusal, maxRounds, lastRow}
 use Rattle.budgets.specs.Answer.{findAnswer, findBuffer}
 use Rattle.budgets.specs.Least.{OneToSixteen, LeastBudgets}
-use Rattle.budgets.proofs.Rows.{first-sixteen, raised-sixteen}
+use Rattle.budgets.proofs.Rows.{row-in, row-sixteen}
 use Rattle.budgets.proofs.Settling.{rounds-keep}
 use Rattle.budgets.proofs.Least.{last-range, last-under, last-admits, stuck-none, stuck-eleven}
 
@@ -39,11 +39,11 @@ alike-admits s row other same admits =
     ap (λ (a : Answer). a .number) (sym (ap₂ (λ C m. nodeLateWith s C m k) cycles here))
     ∙ first-none (lateWith s row) 1 (nodes s) admits k low high)
 
-module _ (s : List ℕ) (few : nodes s ≤ maxNodes) where
-  -- The row has sixteen words.
-  last-length : length (lastRow s) ≡ maxNodes
-  unfolding lastRow
-  last-length = rounds-keep s few (λ row. length row ≡ maxNodes) (λ row on e. raised-sixteen s row) maxRounds (firstRow s) (first-sixteen s)
+-- The last row has sixteen words.
+last-length : (s : List ℕ) → nodes s ≤ maxNodes → length (lastRow s) ≡ maxNodes
+unfolding lastRow firstRow raised
+last-length s few =
+    rounds-keep s few (λ row. length row ≡ maxNodes) (λ row on e. row-sixteen s (raisedBudget s row)) maxRounds (firstRow s) (row-sixteen s (λ k. 1))
 
 -- A row that has the sheet's own budgets makes the test that admit makes.
 own-late : (s row : List ℕ) (k : ℕ)
@@ -56,24 +56,25 @@ own-late s row k same one inside =
     let sums : rowSum s row ≡ budgetsUpTo s (nodes s) = sumTo-same (budgetIn row) (budget s) (nodes s) same in
     ap₂ (λ n m. nodeLateWith s (cycleTicks n (messageTicks s) (nodes s) (slotTicks s)) m k) sums (same k one inside)
 
--- The sheet's own budgets as a row.
-abbrev ownRow : List ℕ → List ℕ
-ownRow s = valuesFrom (budget s) 1 (nodes s)
+-- So the sheet's own row admits the sheet exactly where admit does.
+pub own-admits : (s : List ℕ) (room : ℕ) → Valid s → totalStreams s ≤ room → (admitAnswer s room .number ≡ 0) ↔ Admits s (ownRow s)
+unfolding admitAnswer roomRefusal
+own-admits s room valid enough =
+    let late = firstOf (nodeLateRefusal s) 1 (nodes s) in
+    let rooms = roomRefusal (totalStreams s) room in
+    let passes : rooms .number ≡ 0 = ap (λ (a : Answer). a .number) (refuseIf-not (refuse 6 0 0) (le-ltb room (totalStreams s) enough)) in (
+      λ taken. first-all (lateWith s (ownRow s)) 1 (nodes s) (λ k low high. number-of k low high ∙ first-none (nodeLateRefusal s) 1 (nodes s) (orElse-both late _ (orElse-both rooms _ (orElse-both (sheetRefusal s) _ taken .1) .1) .0) k low high),
+      λ admits.
+          orElse-none (sheetRefusal s) _ valid
+          (orElse-none rooms _ passes
+          (orElse-none late (success (totalStreams s) (cycle s)) (first-all (nodeLateRefusal s) 1 (nodes s) (λ k low high. sym (number-of k low high) ∙ first-none (lateWith s (ownRow s)) 1 (nodes s) admits k low high)) refl)),
+    )
+  where
+    few : nodes s ≤ maxNodes
+    few = valid-fits s valid .header .nodesTo
 
-own-in : (s : List ℕ) (k : ℕ) → 1 ≤ k → k ≤ nodes s → budgetIn (ownRow s) k ≡ budget s k
-own-in s k one inside =
-    let here : 1 + pred k ≡ k = omega arith in
-    values-at (budget s) 1 (nodes s) (pred k) (omega arith) ∙ ap (budget s) here
-
--- It admits the sheet where admit does.
-own-admits : (s : List ℕ) (room : ℕ) → admitAnswer s room .number ≡ 0 → Admits s (ownRow s)
-unfolding admitAnswer
-own-admits s room passes =
-    let late = orElse-both (firstOf (nodeLateRefusal s) 1 (nodes s)) _ (orElse-both (roomRefusal (totalStreams s) room) _ (orElse-both (sheetRefusal s) _ passes .1) .1) .0 in
-    first-all (lateWith s (ownRow s)) 1 (nodes s)
-    (λ k low high.
-    ap (λ (a : Answer). a .number) (own-late s (ownRow s) k (own-in s) low (omega arith))
-    ∙ first-none (nodeLateRefusal s) 1 (nodes s) late k low high)
+    number-of : (k : ℕ) → 1 ≤ k → k < 1 + nodes s → lateWith s (ownRow s) k .number ≡ nodeLateRefusal s k .number
+    number-of k low high = ap (λ (a : Answer). a .number) (own-late s (ownRow s) k (row-in s (budget s) few) low (omega arith))
 
 module _ (s room : List ℕ) (valid : Valid s) (enough : maxNodes ≤ length room) where
   fits : SheetFits s
@@ -101,7 +102,7 @@ module _ (s room : List ℕ) (valid : Valid s) (enough : maxNodes ≤ length roo
   least-budgets = go (ℕ-discrete (stuckRefusal s (lastRow s) .number) 0)
     where
       own-range : OneToSixteen s (ownRow s)
-      own-range k one inside = let r = fits .rows k one inside in rw (own-in s k one inside) (r .budgetFrom, r .budgetTo)
+      own-range k one inside = let r = fits .rows k one inside in rw (row-in s (budget s) (fits .header .nodesTo) k one inside) (r .budgetFrom, r .budgetTo)
 
       go : Dec (stuckRefusal s (lastRow s) .number ≡ 0) → LeastBudgets s (findAnswer s (length room)) (findBuffer s room)
       go (yes none) =
@@ -117,7 +118,7 @@ module _ (s room : List ℕ) (valid : Valid s) (enough : maxNodes ≤ length roo
             none = (λ e. absurd (omega arith), λ nothing. absurd (nothing (findBuffer s room) range admits));
             own = λ taken. (
               zero,
-              λ k one inside. rw (← own-in s k one inside, ← same k one inside) (last-under s fits (ownRow s) own-range (own-admits s (totalStreams s) taken) k one inside),
+              λ k one inside. rw (← row-in s (budget s) (fits .header .nodesTo) k one inside, ← same k one inside) (last-under s fits (ownRow s) own-range (own-admits s (totalStreams s) valid (le-refl _) .0 taken) k one inside),
             );
           }
       go (no refuses) =
@@ -128,5 +129,5 @@ module _ (s room : List ℕ) (valid : Valid s) (enough : maxNodes ≤ length roo
             least = λ e. absurd (omega arith);
             complete = λ row within does. absurd (stuck-none s fits refuses row within does);
             none = (λ e. stuck-none s fits refuses, λ nothing. eleven);
-            own = λ taken. absurd (stuck-none s fits refuses (ownRow s) own-range (own-admits s (totalStreams s) taken));
+            own = λ taken. absurd (stuck-none s fits refuses (ownRow s) own-range (own-admits s (totalStreams s) valid (le-refl _) .0 taken));
           }

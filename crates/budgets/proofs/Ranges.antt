@@ -1,14 +1,13 @@
 -- The full cycle and the budgets of a row are as a node can have them. Assumes nothing.
 use Prim.Native.Nat.{ℕ, _≤_}
-use native.Mathlib.Nat.{mul-le-mul}
 use native.Mathlib.Omega.{arith}
 use mathlib.Core.List.{List}
 use Rattle.theory.proofs.Sums.{sumTo-most, sumTo-least}
 use Rattle.model.specs.Limits.{maxBudget}
 use Rattle.model.specs.Sheet.{nodes}
 use Rattle.model.proofs.Sheet.ValidSheet.{SheetFits}
-use Rattle.model.proofs.Sheet.NodeSums.{full-cycle-most}
-use Rattle.wait.specs.InRange.{maxCycle, Shares}
+use Rattle.model.proofs.Sheet.NodeSums.{full-cycle-least, full-cycle-most}
+use Rattle.wait.specs.InRange.{maxCycle, CycleAndBudget}
 use Rattle.budgets.specs.Rounds.{budgetIn, rowSum, rowCycle}
 use Rattle.budgets.specs.Least.{OneToSixteen}
 
@@ -24,11 +23,11 @@ module _ (s row : List ℕ) (fits : SheetFits s) (range : OneToSixteen s row) wh
   row-cycle-least : 2 ≤ rowCycle s row
   row-cycle-least =
       let h = fits .header in
-      let sum : 1 ≤ rowSum s row = omega (arith, sumTo-least (budgetIn row) (nodes s) (λ k one inside. range k one inside .0), h .nodesFrom) in
-      omega (arith, mul-le-mul sum (h .messageFrom), mul-le-mul (h .nodesFrom) (h .slotFrom))
+      let each = sumTo-least (budgetIn row) (nodes s) (λ k one inside. range k one inside .0) in
+      full-cycle-least (omega (arith, each, h .nodesFrom)) (h .messageFrom) (h .nodesFrom) (h .slotFrom)
 
   -- So a node is judged with numbers in range.
-  pub row-shares : (k : ℕ) → 1 ≤ k → k ≤ nodes s → Shares (rowCycle s row) (budgetIn row k)
+  pub row-shares : (k : ℕ) → 1 ≤ k → k ≤ nodes s → CycleAndBudget (rowCycle s row) (budgetIn row k)
   row-shares k one inside =
       record {
         cycleFrom = row-cycle-least;

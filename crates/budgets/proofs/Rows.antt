@@ -1,7 +1,7 @@
 -- Rows of budgets: what stands in the first and in a raised one, and that a row at or under another has no larger sum and no longer
 -- cycle. Assumes nothing.
 use Prim.Native.Nat.{ℕ, zero, suc, pred, _+_, _≤_, _<_}
-use native.Mathlib.Nat.{le-refl, eq-or-lt-of-le, mul-le-mul-right}
+use native.Mathlib.Nat.{eq-or-lt-of-le, mul-le-mul-right}
 use native.Mathlib.Decide.{decLt}
 use native.Mathlib.Omega.{arith}
 use mathlib.Core.Path.{_≡_, refl, sym, ap, _∙_}
@@ -17,16 +17,8 @@ use Rattle.theory.proofs.Sums.{sumTo-mono}
 use Rattle.theory.proofs.Listing.{values-length, values-at}
 use Rattle.model.specs.Limits.{maxNodes}
 use Rattle.model.specs.Sheet.{word, nodes, messageTicks}
-use Rattle.budgets.specs.Rounds.{budgetIn, rowSum, rowCycle, firstRow, raisedBudget, raised}
+use Rattle.budgets.specs.Rounds.{budgetIn, rowSum, rowCycle, rowOf, hasLate, raisedBudget, raised}
 use Rattle.budgets.specs.Least.{AtMost}
-
--- The budget of node k in a row that is made node by node, with 0 past the last.
-made-in : (f : ℕ → ℕ) (n k : ℕ) → 1 ≤ k → k ≤ n → n ≤ maxNodes → budgetIn (valuesFrom (λ i. cond (ltb n i) 0 (f i)) 1 maxNodes) k ≡ f k
-made-in f n k one inside few =
-    let here : 1 + pred k ≡ k = omega arith in
-    values-at (λ i. cond (ltb n i) 0 (f i)) 1 maxNodes (pred k) (omega arith)
-    ∙ ap (λ i. cond (ltb n i) 0 (f i)) here
-    ∙ (rw (le-ltb n k inside) refl)
 
 -- Every word of a row of zeros is 0, past its end too.
 pub zero-word : (n p : ℕ) → word (replicate n 0) p ≡ 0
@@ -72,16 +64,46 @@ made-row f left n row making past =
         go true e = making .after p (omega (arith, ltb-true n (1 + p) e)) ∙ past p (omega (arith, ltb-true n (1 + p) e))
         go false e = making .before p (omega (arith, ltb-false n (1 + p) e))
 
-module _ (s : List ℕ) (few : nodes s ≤ maxNodes) where
-  -- In the first row every budget is 1.
-  pub first-in : (k : ℕ) → 1 ≤ k → k ≤ nodes s → budgetIn (firstRow s) k ≡ 1
-  unfolding firstRow
-  first-in k one inside = made-in (λ i. 1) (nodes s) k one inside few
+module _ (s : List ℕ) (budgets : ℕ → ℕ) where
+  -- The budget of a node in a row that is made so,
+  pub row-in : nodes s ≤ maxNodes → (k : ℕ) → 1 ≤ k → k ≤ nodes s → budgetIn (rowOf s budgets) k ≡ budgets k
+  row-in few k one inside =
+      let here : 1 + pred k ≡ k = omega arith in
+      values-at (λ i. cond (ltb (nodes s) i) 0 (budgets i)) 1 maxNodes (pred k) (omega arith)
+      ∙ ap (λ i. cond (ltb (nodes s) i) 0 (budgets i)) here
+      ∙ (rw (le-ltb (nodes s) k inside) refl)
 
-  -- In a raised row each is raised or as it was.
-  pub raised-in : (row : List ℕ) (k : ℕ) → 1 ≤ k → k ≤ nodes s → budgetIn (raised s row) k ≡ raisedBudget s row k
-  unfolding raised
-  raised-in row k one inside = made-in (raisedBudget s row) (nodes s) k one inside few
+  -- its length,
+  pub row-sixteen : length (rowOf s budgets) ≡ maxNodes
+  row-sixteen = values-length _ 1 maxNodes
+
+  -- and its words past the last node.
+  pub row-past : (p : ℕ) → nodes s ≤ p → word (rowOf s budgets) p ≡ 0
+  row-past p past =
+      by-cases
+      (decLt p maxNodes)
+      (λ inside.
+      values-at (λ i. cond (ltb (nodes s) i) 0 (budgets i)) 1 maxNodes p inside
+      ∙ ap (λ b. cond b 0 (budgets (1 + p))) (lt-ltb (nodes s) (1 + p) (omega arith)))
+      (λ outside.
+      let end : length (rowOf s budgets) ≤ p = rw row-sixteen (omega arith) in
+      List·getD-eq-default (rowOf s budgets) 0 end)
+
+-- In a raised row each budget is raised or as it was.
+pub raised-in : (s row : List ℕ) → nodes s ≤ maxNodes → (k : ℕ) → 1 ≤ k → k ≤ nodes s → budgetIn (raised s row) k ≡ raisedBudget s row k
+unfolding raised
+raised-in s row few = row-in s (raisedBudget s row) few
+
+-- A budget that is raised or as it was keeps what holds of both.
+pub raised-either : (s row : List ℕ) (k : ℕ) (P : ℕ → Type 0)
+    → (hasLate s row k ≡ true → P (suc (budgetIn row k)))
+    → P (budgetIn row k)
+    → P (raisedBudget s row k)
+raised-either s row k P late fine = go (hasLate s row k) refl
+  where
+    go : (b : Bool) → hasLate s row k ≡ b → P (cond b (suc (budgetIn row k)) (budgetIn row k))
+    go true e = late e
+    go false e = fine
 
 module _ (s row other : List ℕ) (under : AtMost s row other) where
   -- A row at or under another has no larger sum,
@@ -91,32 +113,3 @@ module _ (s row other : List ℕ) (under : AtMost s row other) where
   -- and no longer cycle.
   pub cycle-under : rowCycle s row ≤ rowCycle s other
   cycle-under = omega (arith, mul-le-mul-right (messageTicks s) sum-under)
-
--- Past the last node a row that is made has 0.
-made-past : (f : ℕ → ℕ) (n p : ℕ) → n ≤ p → word (valuesFrom (λ i. cond (ltb n i) 0 (f i)) 1 maxNodes) p ≡ 0
-made-past f n p past =
-    by-cases
-    (decLt p maxNodes)
-    (λ inside.
-    values-at (λ i. cond (ltb n i) 0 (f i)) 1 maxNodes p inside
-    ∙ ap (λ b. cond b 0 (f (1 + p))) (lt-ltb n (1 + p) (omega arith)))
-    (λ outside.
-    let end : length (valuesFrom (λ i. cond (ltb n i) 0 (f i)) 1 maxNodes) ≤ p = rw (values-length (λ i. cond (ltb n i) 0 (f i)) 1 maxNodes) (omega arith) in
-    List·getD-eq-default (valuesFrom (λ i. cond (ltb n i) 0 (f i)) 1 maxNodes) 0 end)
-
-module _ (s : List ℕ) where
-  pub first-past : (p : ℕ) → nodes s ≤ p → word (firstRow s) p ≡ 0
-  unfolding firstRow
-  first-past p past = made-past (λ i. 1) (nodes s) p past
-
-  pub raised-past : (row : List ℕ) (p : ℕ) → nodes s ≤ p → word (raised s row) p ≡ 0
-  unfolding raised
-  raised-past row p past = made-past (raisedBudget s row) (nodes s) p past
-
-  pub first-sixteen : length (firstRow s) ≡ maxNodes
-  unfolding firstRow
-  first-sixteen = values-length _ 1 maxNodes
-
-  pub raised-sixteen : (row : List ℕ) → length (raised s row) ≡ maxNodes
-  unfolding raised
-  raised-sixteen row = values-length _ 1 maxNodes

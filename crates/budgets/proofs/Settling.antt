@@ -2,20 +2,20 @@
 use Prim.Native.Nat.{ℕ, zero, suc, _+_, _*_, _≤_, _<_}
 use native.Mathlib.Nat.{le-refl}
 use native.Mathlib.Omega.{arith}
-use mathlib.Core.Path.{_≡_, refl, ap, _∙_}
-use mathlib.Core.Bool.{Bool, true, false, cond, _&&_, not}
+use mathlib.Core.Path.{_≡_, refl}
+use mathlib.Core.Bool.{Bool, true, false, _&&_, not}
 use mathlib.Core.List.{List}
 use lib.Dec.{eqb, leb}
 use borrow.Author.Tests.{eqb-true, eqb-false, ne-eqb, leb-false, not-true}
 use Rattle.theory.proofs.Tests.{and-reading}
-use Rattle.theory.proofs.Sums.{sumTo-less, sumTo-most}
+use Rattle.theory.proofs.Sums.{sumTo-less, sumTo-most, sumTo-least}
 use Rattle.model.specs.Limits.{maxNodes, maxBudget}
 use Rattle.model.specs.Refusal.{refuse, firstOf}
 use Rattle.model.specs.Sheet.{nodes}
 use Rattle.model.proofs.Sheet.Refusals.{first-none, first-found, refuseIf-none}
-use Rattle.budgets.specs.Rounds.{budgetIn, rowSum, lateWith, hasLate, raised, fullRefusal, stuckRefusal, goesOn, rounds}
+use Rattle.budgets.specs.Rounds.{budgetIn, rowSum, lateWith, hasLate, firstRow, raised, fullRefusal, stuckRefusal, goesOn, rounds, maxRounds}
 use Rattle.budgets.specs.Least.{OneToSixteen}
-use Rattle.budgets.proofs.Rows.{raised-in}
+use Rattle.budgets.proofs.Rows.{row-in, raised-in, raised-either}
 
 module _ (s : List ℕ) (few : nodes s ≤ maxNodes) where
   -- Where a round is to come, some stream is late and no late node has 16 already.
@@ -33,26 +33,19 @@ module _ (s : List ℕ) (few : nodes s ≤ maxNodes) where
       let test = refuseIf-none (hasLate s row k && leb maxBudget (budgetIn row k)) (refuse 11 k 0) (λ e. omega arith) passes in
       leb-false maxBudget (budgetIn row k) (rw late at test)
 
-  -- A budget that is raised or as it was: no less, and one more where a stream is late.
+  -- A budget that is raised or as it was is no less.
   raised-grows : (row : List ℕ) (k : ℕ) → 1 ≤ k → k ≤ nodes s → budgetIn row k ≤ budgetIn (raised s row) k
-  raised-grows row k one inside = rw (raised-in s few row k one inside) (go (hasLate s row k))
-    where
-      go : (b : Bool) → budgetIn row k ≤ cond b (suc (budgetIn row k)) (budgetIn row k)
-      go true = omega arith
-      go false = le-refl _
-
-  raised-late : (row : List ℕ) (k : ℕ) → 1 ≤ k → k ≤ nodes s → hasLate s row k ≡ true → budgetIn (raised s row) k ≡ suc (budgetIn row k)
-  raised-late row k one inside late = raised-in s few row k one inside ∙ ap (λ b. cond b (suc (budgetIn row k)) (budgetIn row k)) late
+  raised-grows row k one inside =
+      rw (raised-in s row few k one inside) (raised-either s row k (λ n. budgetIn row k ≤ n) (λ late. omega arith) (le-refl _))
 
   -- A round keeps budgets from 1 to 16,
   pub raised-range : (row : List ℕ) → goesOn s row ≡ true → OneToSixteen s row → OneToSixteen s (raised s row)
   raised-range row on range k one inside =
-      let before = range k one inside in
-      (omega (arith, before .0, raised-grows row k one inside), rw (raised-in s few row k one inside) (go (hasLate s row k) refl))
-    where
-      go : (b : Bool) → hasLate s row k ≡ b → cond b (suc (budgetIn row k)) (budgetIn row k) ≤ maxBudget
-      go true late = late-has-room row (on-late row on .1) k one inside late
-      go false fine = range k one inside .1
+      let before = range k one inside in (
+        omega (arith, before .0, raised-grows row k one inside),
+        rw (raised-in s row few k one inside)
+            (raised-either s row k (λ n. n ≤ maxBudget) (λ late. late-has-room row (on-late row on .1) k one inside late) (before .1)),
+      )
 
   -- and raises their sum.
   pub raised-more : (row : List ℕ) → goesOn s row ≡ true → rowSum s row < rowSum s (raised s row)
@@ -62,7 +55,15 @@ module _ (s : List ℕ) (few : nodes s ≤ maxNodes) where
       let inside : k ≤ nodes s = omega (arith, f .high) in
       let late : hasLate s row k ≡ true = rw (ne-eqb (lateWith s row k .number) 0 (λ e. on-late row on .0 (rw (f .same) e))) refl in
       sumTo-less (budgetIn row) (budgetIn (raised s row)) (nodes s) k (raised-grows row) (f .low) inside
-      (rw (raised-late row k (f .low) inside late) (le-refl _))
+      (rw (raised-in s row few k (f .low) inside, late) (le-refl _))
+
+  -- The first row has them, and its sum leaves rounds enough.
+  pub first-range : OneToSixteen s (firstRow s)
+  unfolding firstRow
+  first-range k one inside = let e = row-in s (λ i. 1) few k one inside in (omega (arith, e), omega (arith, e))
+
+  pub first-enough : nodes s * maxBudget < rowSum s (firstRow s) + maxRounds
+  first-enough = omega (arith, few, sumTo-least (budgetIn (firstRow s)) (nodes s) (λ k one inside. first-range k one inside .0))
 
   -- What a round keeps, the rounds keep.
   pub rounds-keep : (P : List ℕ → Type 0)

@@ -1,11 +1,11 @@
 -- A row at or under one that admits the sheet: a node with a late stream has less than there, so that a round stays at or under it.
 -- Assumes nothing.
-use Prim.Native.Nat.{ℕ, suc, _≤_, _<_}
+use Prim.Native.Nat.{ℕ, _≤_, _<_}
 use native.Mathlib.Nat.{eq-or-lt-of-le}
 use native.Mathlib.Omega.{arith}
 use mathlib.Core.Path.{_≡_, refl}
 use mathlib.Core.Logic.{⊎-elim}
-use mathlib.Core.Bool.{Bool, true, false, cond, not}
+use mathlib.Core.Bool.{Bool, true, false, not}
 use mathlib.Core.List.{List}
 use lib.Dec.{eqb}
 use borrow.Author.Tests.{eqb-false}
@@ -15,7 +15,7 @@ use Rattle.model.proofs.Sheet.Refusals.{first-none}
 use Rattle.model.proofs.Answers.LongerLate.{node-late-longer}
 use Rattle.budgets.specs.Rounds.{budgetIn, rowCycle, lateWith, Admits, hasLate, raised}
 use Rattle.budgets.specs.Least.{AtMost}
-use Rattle.budgets.proofs.Rows.{raised-in, cycle-under}
+use Rattle.budgets.proofs.Rows.{raised-in, raised-either, cycle-under}
 
 -- What it is to have a late stream.
 pub has-late : (s row : List ℕ) (k : ℕ) → hasLate s row k ≡ true → lateWith s row k .number ≡ 0 → ⊥
@@ -44,8 +44,6 @@ module _ (s row other : List ℕ)
 
     -- A round stays at or under it.
     pub raised-under : AtMost s (raised s row) other
-    raised-under k one inside = rw (raised-in s few row k one inside) (go (hasLate s row k) refl)
-      where
-        go : (b : Bool) → hasLate s row k ≡ b → cond b (suc (budgetIn row k)) (budgetIn row k) ≤ budgetIn other k
-        go true late = late-less k one inside late
-        go false fine = under k one inside
+    raised-under k one inside =
+        rw (raised-in s row few k one inside)
+        (raised-either s row k (λ n. n ≤ budgetIn other k) (λ late. late-less k one inside late) (under k one inside))

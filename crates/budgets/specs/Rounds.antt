@@ -9,7 +9,7 @@ use Rattle.theory.specs.Listing.{valuesFrom}
 use Rattle.model.specs.declared.Answer.{Answer}
 use Rattle.model.specs.Limits.{maxNodes, maxBudget}
 use Rattle.model.specs.Refusal.{refuse, refuseIf, firstOf}
-use Rattle.model.specs.Sheet.{word, nodes, messageTicks, slotTicks, cycleTicks}
+use Rattle.model.specs.Sheet.{word, nodes, budget, messageTicks, slotTicks, cycleTicks}
 use Rattle.model.specs.Answers.{nodeLateWith}
 
 -- The budget of node k in a "row": one word a node, in node order.
@@ -36,9 +36,17 @@ Admits s row = firstOf (lateWith s row) 1 (nodes s) .number ≡ 0
 abbrev pub hasLate : List ℕ → List ℕ → ℕ → Bool
 hasLate s row k = not (eqb (lateWith s row k .number) 0)
 
--- "start with budget 1 everywhere"; the words past the last node are 0.
+-- A row of sixteen words: a budget for each node of the sheet, "those past n as 0".
+abbrev pub rowOf : List ℕ → (ℕ → ℕ) → List ℕ
+rowOf s budgets = valuesFrom (λ k. cond (ltb (nodes s) k) 0 (budgets k)) 1 maxNodes
+
+-- The sheet's own budgets as a row.
+abbrev pub ownRow : List ℕ → List ℕ
+ownRow s = rowOf s (budget s)
+
+-- "start with budget 1 everywhere".
 unfoldable pub firstRow : List ℕ → List ℕ
-firstRow s = valuesFrom (λ k. cond (ltb (nodes s) k) 0 1) 1 maxNodes
+firstRow s = rowOf s (λ k. 1)
 
 -- The budget of node k after a round: "give one more to every node with a late stream".
 abbrev pub raisedBudget : List ℕ → List ℕ → ℕ → ℕ
@@ -46,12 +54,13 @@ raisedBudget s row k = cond (hasLate s row k) (suc (budgetIn row k)) (budgetIn r
 
 -- The row after a round, "judged by" the row before it.
 unfoldable pub raised : List ℕ → List ℕ → List ℕ
-raised s row = valuesFrom (λ k. cond (ltb (nodes s) k) 0 (raisedBudget s row k)) 1 maxNodes
+raised s row = rowOf s (raisedBudget s row)
 
--- Refusal 11 in a round: "the first late node whose budget is already 16".
+-- Refusal 11 of one node: it has a late stream, and its "budget is already 16".
 unfoldable pub fullRefusal : List ℕ → List ℕ → ℕ → Answer
 fullRefusal s row k = refuseIf (hasLate s row k && leb maxBudget (budgetIn row k)) (refuse 11 k 0)
 
+-- Refusal 11 in a round: "the first late node whose budget is already 16".
 unfoldable pub stuckRefusal : List ℕ → List ℕ → Answer
 stuckRefusal s row = firstOf (fullRefusal s row) 1 (nodes s)
 

@@ -9,7 +9,7 @@ ghost use Rattle.model.specs.Limits.{maxNodes, maxBudget};
 ghost use Rattle.model.specs.Sheet.{nodes, Valid};
 ghost use Rattle.model.specs.Refusal.{success, _orElse_, firstOf};
 ghost use Rattle.model.specs.Answers.{nodeLateWith, bufferAfter};
-ghost use Rattle.wait.specs.InRange.{Shares};
+ghost use Rattle.wait.specs.InRange.{CycleAndBudget};
 ghost use Rattle.budgets.specs.Rounds.{rowSum, rowCycle, lateWith, firstRow, raised, stuckRefusal, lastRow};
 ghost use Rattle.budgets.specs.Answer.{findAnswer, findBuffer};
 ghost use Rattle.budgets.specs.Least.{LeastBudgets};
@@ -25,7 +25,7 @@ use sheet::check_sheet;
 
 // True where node k has a late stream, with that full cycle and budget.
 fn node_late(sheet: &[u32], cycle: u32, budget: u32, k: u32) -> bool
-    requires { ⌜ Valid (now sheet) × (1 ≤ k) × (k ≤ nodes (now sheet)) × Shares cycle budget ⌝ }
+    requires { ⌜ Valid (now sheet) × (1 ≤ k) × (k ≤ nodes (now sheet)) × CycleAndBudget cycle budget ⌝ }
     ensures { λ r. ⌜ r ≡ not (eqb (nodeLateWith (now (sheet .entry)) cycle budget k .number) 0) ⌝ }
 {
     let count = stream_count(sheet, k);
@@ -109,7 +109,7 @@ struct Round {
 }
 
 // One round: every node is judged by the row that is handed over by value, and each with a late stream gets one more in the row that is lent.
-fn play_round(sheet: &[u32], row: [u32; 16], next: &mut [u32]) -> Round
+fn run_round(sheet: &[u32], row: [u32; 16], next: &mut [u32]) -> Round
     requires { ⌜ Valid (now sheet) × Row (now sheet) row × (now next ≡ row) ⌝ }
     ensures stuck { λ r. ⌜ stuckAt (r .stuck) ≡ stuckRefusal (now (sheet .entry)) row ⌝ }
     ensures late { λ r. ⌜ (r .stuck ≡ 0 → r .late ≡ not (eqb (firstOf (lateWith (now (sheet .entry)) row) 1 (nodes (now (sheet .entry))) .number) 0)) ⌝ }
@@ -163,7 +163,7 @@ fn finish(sheet: &[u32], row: [u32; 16], stuck: u32, room: &mut [u32]) -> Answer
 
 // The rounds, until none is late or a late node has 16 already. "The row of sixteen budgets is copied before each round, and the
 // copy is what the round is judged by."
-fn settle(sheet: &[u32], room: &mut [u32]) -> Answer
+fn run_rounds(sheet: &[u32], room: &mut [u32]) -> Answer
     requires { ⌜ Valid (now sheet) × (maxNodes ≤ length (now room)) ⌝ }
     ensures answer { λ r. ⌜ r ≡ (stuckRefusal (now (sheet .entry)) (lastRow (now (sheet .entry))) orElse success (rowSum (now (sheet .entry)) (lastRow (now (sheet .entry)))) (rowCycle (now (sheet .entry)) (lastRow (now (sheet .entry))))) ⌝ }
     ensures buffer { λ r. ⌜ now (room .exit) ≡ bufferAfter r (lastRow (now (sheet .entry))) (now (room .entry)) ⌝ }
@@ -171,7 +171,7 @@ fn settle(sheet: &[u32], room: &mut [u32]) -> Answer
     let mut row = first_row(sheet);
     loop {
         let copy = row;
-        let round = play_round(sheet, copy, &mut row);
+        let round = run_round(sheet, copy, &mut row);
         if is_over(round.stuck, round.late) {
             return finish(sheet, copy, round.stuck, room);
         }
@@ -193,5 +193,5 @@ pub fn find_budgets(sheet: &[u32], room: &mut [u32]) -> Answer
     if short.number != 0 {
         return short;
     }
-    settle(sheet, room)
+    run_rounds(sheet, room)
 }

@@ -6,5 +6,6 @@ pub mod Wait
 pub mod Search
 pub mod LongerCycle
 pub mod Jump
+pub mod JumpApplied
 pub mod Searching
 pub mod StreamVerdict

@@ -98,7 +98,7 @@ pub record HasWait (H : ℕ → ℕ) (t : Timing) (deadline J w : ℕ) : Type 0 
 abbrev pub IsLate : (ℕ → ℕ) → Timing → ℕ → Type 0
 IsLate H t deadline = (J : ℕ) → IsLeastJ H t J → lateAt t deadline J ≡ true
 
--- The search for J, to be run: J = from, from + 1 and so on, `tries` of them; late where none suffices.
+-- The search for J, as it computes the verdict: J = from, from + 1 and so on, `tries` of them; late where none suffices.
 unfoldable pub search : (ℕ → ℕ) → Timing → ℕ → ℕ → Verdict
 search H t zero from = Late
 search H t (suc tries) from =

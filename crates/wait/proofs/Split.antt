@@ -10,7 +10,7 @@ use borrow.Author.Tests.{lt-ltb, le-ltb}
 use Rattle.model.specs.declared.Timing.{Timing}
 use Rattle.model.specs.Analysis.{mostReleases, Suffices}
 use Rattle.model.proofs.Analysis.Interference.{releases-grow}
-use Rattle.model.proofs.Analysis.Jump.{AtLeast, held-least, releases-rate, sum-least, some-hope, jump}
+use Rattle.model.proofs.Analysis.Jump.{AtLeast, held-least, releases-rate, sum-least, rates-below, jump}
 use Rattle.wait.specs.Periods.{interferenceBy}
 use Rattle.wait.specs.Jump.{scale, heldBy, ratedBy, heldOf, rateOf}
 
@@ -59,8 +59,8 @@ module _ (periods : List ℕ) (t : Timing) (J reach i : ℕ)
     (enough : Suffices (interferenceBy periods) t i)
   where
     -- Where a number from J on suffices, the rates do not fill the turns,
-    pub split-hope : rateOf reach (t .cycle) periods < t .budget * scale
-    split-hope = some-hope (t .budget) 1 i (split-least (t .cycle) J reach first some periods) from (omega arith) (omega arith)
+    pub split-below : rateOf reach (t .cycle) periods < t .budget * scale
+    split-below = rates-below (t .budget) 1 i (split-least (t .cycle) J reach first some periods) from (omega arith) (omega arith)
 
     -- and those held take all of them up to there.
     pub split-next : ((heldOf reach (J * t .cycle - 1) periods + 1) * scale - 1) / (t .budget * scale - rateOf reach (t .cycle) periods) + 1 ≤ i

@@ -17,9 +17,9 @@ module _ {t : Timing} {deadline tries : ℕ}
     -- So many cycles,
     pub cycles-to : (J : ℕ) → J ≤ tries → J * t .cycle ≤ maxTime + 1
     cycles-to J few =
-        let positive : 0 < t .cycle = omega (arith, ranges .cycleFrom) in
+        let positive : 0 < t .cycle = omega (arith, ranges .shares .cycleFrom) in
         le-trans (tries-cycles t deadline J positive (rw worth at few)) (omega arith)
 
     -- and so many tries.
     pub tries-to : tries ≤ maxTime
-    tries-to = omega (arith, cycles-to tries (le-refl tries), mul-le-mul-left tries (ranges .cycleFrom))
+    tries-to = omega (arith, cycles-to tries (le-refl tries), mul-le-mul-left tries (ranges .shares .cycleFrom))

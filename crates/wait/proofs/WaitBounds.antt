@@ -25,11 +25,11 @@ module _ {periods : List ℕ} {t : Timing} {J h before : ℕ}
     pub place-most : h - before < maxBudget
     place-most =
         let last : J * t .budget ≡ pred J * t .budget + t .budget = ap (λ n. n * t .budget) (sym (suc-pred-eq-of-pos (at .least .fromOne))) ∙ suc-mul (pred J) (t .budget) in
-        omega (arith, turns, at .tried .counted, at .least .suffices, place-least, ranges .budgetTo)
+        omega (arith, turns, at .tried .counted, at .least .suffices, place-least, ranges .shares .budgetTo)
 
     -- J cycles are a tick at least.
     pub window-least : 1 ≤ J * t .cycle
-    window-least = one-le-mul (at .least .fromOne) (omega (arith, ranges .cycleFrom))
+    window-least = one-le-mul (at .least .fromOne) (omega (arith, ranges .shares .cycleFrom))
 
     -- A message or a slot for each place before it in the turn: no more than a budget of the longest.
     pub ticks-most : {ticks : ℕ} → ticks ≤ maxSlotTicks → (h - before) * ticks ≤ 160_000

@@ -19,7 +19,7 @@ pub record Divisors (periods : List ℕ) : Type 0 where
   pub positive : (i : ℕ) → i < length periods → 1 ≤ getD periods i 0
 
 -- A full cycle and a budget as a node can have them.
-pub record Shares (cycle budget : ℕ) : Type 0 where
+pub record CycleAndBudget (cycle budget : ℕ) : Type 0 where
   pub cycleFrom : 2 ≤ cycle
   pub cycleTo : cycle ≤ maxCycle
   pub budgetFrom : 1 ≤ budget
@@ -27,10 +27,7 @@ pub record Shares (cycle budget : ℕ) : Type 0 where
 
 -- A timing as a valid sheet has it.
 pub record Ranges (t : Timing) : Type 0 where
-  pub cycleFrom : 2 ≤ t .cycle
-  pub cycleTo : t .cycle ≤ maxCycle
-  pub budgetFrom : 1 ≤ t .budget
-  pub budgetTo : t .budget ≤ maxBudget
+  pub shares : CycleAndBudget (t .cycle) (t .budget)
   pub messageTo : t .message ≤ maxSlotTicks
   pub slotTo : t .slot ≤ maxSlotTicks
   pub messagesTo : t .budget * t .message ≤ maxBudget * maxSlotTicks

@@ -15,7 +15,7 @@ use model::Timing;
 // message short in all the cycles that a deadline allows: where the streams above fill the turns exactly, that is seen.
 const SCALE: u64 = 17_179_869_184;
 
-// Up to so many cycles the plain jump is fast enough.
+// Below so many cycles the plain jump is fast enough.
 const NEAR: u32 = 16;
 
 // Past all numbers that are tried.

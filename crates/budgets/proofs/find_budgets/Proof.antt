@@ -62,8 +62,8 @@ returns-2 c =
     in
     with-least (a .sheet .now) (a .room .now) answer (buffer-kept _ (lastRow (a .sheet .now)) (a .room .now) (c .if2 .taken))
 
-settle-requires : tie.Need-settle-requires
-settle-requires c κs =
+run-rounds-requires : tie.Need-run-rounds-requires
+run-rounds-requires c κs =
     let a = c .before .before .before .before .before .before .before .before .before .args in (
       rw (c .before .before .before .before .before .before .check-sheet .ensures) at (c .before .before .before .before .if1 .left),
       room-enough maxNodes (length (a .room .now)) (rw (short (c .before .before .before)) at (c .before .if2 .left)),
@@ -76,7 +76,7 @@ returns-3 : tie.Need-returns-3
 unfolding findAnswer
 returns-3 c =
     let a = c .before .before .before .before .before .before .before .before .before .before .before .before .args in
-    let settled = c .before .before .settle .ensures in
+    let settled = c .before .before .run-rounds .ensures in
     let answer =
     passed (c .before .before .before .before .before .before .before .before .before .check-sheet .ensures) (c .before .before .before .before .before .before .before .if1 .left)
     (passed (short (c .before .before .before .before .before .before)) (c .before .before .before .before .if2 .left) (settled .0))
@@ -91,6 +91,6 @@ find-budgets-spec =
     returns
     refuse-if-requires
     returns-2
-    settle-requires
+    run-rounds-requires
     same-length
     returns-3)

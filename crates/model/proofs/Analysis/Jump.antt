@@ -15,11 +15,11 @@ use Rattle.model.specs.Analysis.{mostReleases, Suffices}
 use Rattle.model.proofs.Analysis.Wait.{Grows}
 
 -- A stream is counted with at least one message a period, whatever the window.
-abbrev Steady : (ℕ → ℕ) → ℕ → Type 0
+abbrev pub Steady : (ℕ → ℕ) → ℕ → Type 0
 Steady h period = (w : ℕ) → w + 1 ≤ h w * period
 
 -- So is one that is counted with the most that it can release.
-releases-steady : (period : ℕ) → 1 ≤ period → Steady (mostReleases period) period
+pub releases-steady : (period : ℕ) → 1 ≤ period → Steady (mostReleases period) period
 unfolding mostReleases
 releases-steady period one w = omega (arith, lt-div-mul-add {a = w} one)
 
@@ -38,7 +38,7 @@ module _ (scale cycle J : ℕ) where
           omega (arith, mul-le-mul-right scale (grows (J * cycle - 1) (i * cycle - 1) (omega arith)))
 
   -- What counts one message a period has that rate, rounded down.
-  rate-least : (h : ℕ → ℕ) (period : ℕ)
+  pub rate-least : (h : ℕ → ℕ) (period : ℕ)
       → 1 ≤ J
       → 1 ≤ cycle
       → 1 ≤ period
@@ -102,17 +102,17 @@ module _ (m spare i : ℕ) {scale cycle J held rate : ℕ} {h : ℕ → ℕ}
         )
 
     -- So the rates alone do not fill the turns,
-    pub some-hope : rate < m * scale
-    some-hope = lt-of-mul-lt-mul-left i (omega (arith, left-for-held, mul-comm i rate, mul-comm i (m * scale)))
+    pub rates-below : rate < m * scale
+    rates-below = lt-of-mul-lt-mul-left i (omega (arith, left-for-held, mul-comm i rate, mul-comm i (m * scale)))
 
     -- and i is at least what those held take of what the rates leave, rounded up.
     pub jump : ((held + spare) * scale - 1) / (m * scale - rate) + 1 ≤ i
     jump =
         let left = m * scale - rate in
-        let whole : m * scale ≡ left + rate = omega (arith, some-hope) in
+        let whole : m * scale ≡ left + rate = omega (arith, rates-below) in
         let all = left-for-held in
         let enough : (held + spare) * scale ≤ i * left = omega (arith, rw whole at all, add-mul left rate i, mul-comm left i) in
-        omega (arith, div-lt-iff-lt-mul {k = left} {x = (held + spare) * scale - 1} {y = i} (omega (arith, some-hope)) .1 (omega arith))
+        omega (arith, div-lt-iff-lt-mul {k = left} {x = (held + spare) * scale - 1} {y = i} (omega (arith, rates-below)) .1 (omega arith))
 
 -- The plain jump: where J cycles do not suffice, the next to try is floor(H / m) + 1.
 pub plain-jump : {H : ℕ → ℕ} (t : Timing) (J i : ℕ)

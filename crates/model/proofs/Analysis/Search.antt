@@ -1,4 +1,4 @@
--- The search for J that is run: its steps, and that its verdict is the literal one. It tries 1, 2 and so on in order, so where it
+-- The search for J that computes the verdict: its steps, and that its verdict is the literal one. It tries 1, 2 and so on in order, so where it
 -- stops J is the smallest; and it tries just the J that are in time. Assumes nothing.
 use Prim.Native.Nat.{ℕ, zero, suc, _+_, _-_, _*_, _≤_, _<_}
 use native.Mathlib.Nat.{le-refl, le-step, eq-or-lt-of-le}

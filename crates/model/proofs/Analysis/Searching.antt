@@ -1,5 +1,5 @@
--- The search for J as a loop runs it: it goes from a number to a later one that no number below it suffices. Where it stops, the
--- verdict is the literal one, and so the definition's, which tries every number. Assumes nothing.
+-- The search for J as a loop runs it: it goes from a number to a later one, below which none suffices. Where it stops, the verdict is
+-- the literal one, and so the definition's, which tries every number. Assumes nothing.
 use Prim.Native.Nat.{ℕ, _≤_, _<_}
 use native.Mathlib.Omega.{arith}
 use mathlib.Core.Path.{_≡_, refl, sym}

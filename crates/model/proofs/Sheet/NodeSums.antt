@@ -11,6 +11,10 @@ use Rattle.model.specs.Limits.{maxNodes, maxStreams, maxBudget, maxSlotT
 use Rattle.model.specs.Sheet.{nodes, streamCount, budget, streamsUpTo, totalStreams, budgetsUpTo, cycleTicks, cycle, contentsWords, bodyPlace}
 use Rattle.model.proofs.Sheet.ValidSheet.{SheetFits}
 
+-- "C" at least: a message and a slot.
+pub full-cycle-least : {budgets message n slot : ℕ} → 1 ≤ budgets → 1 ≤ message → 1 ≤ n → 1 ≤ slot → 2 ≤ cycleTicks budgets message n slot
+full-cycle-least budgets message n slot = omega (arith, mul-le-mul budgets message, mul-le-mul n slot)
+
 module _ (s : List ℕ) (fits : SheetFits s) where
   -- Sixteen nodes of sixteen streams at most.
   pub total-most : totalStreams s ≤ 256
@@ -28,8 +32,7 @@ module _ (s : List ℕ) (fits : SheetFits s) where
   cycle-least =
       let h = fits .header in
       let each = sumTo-least (budget s) (nodes s) (λ k low high. fits .rows k low high .budgetFrom) in
-      let sum : 1 ≤ budgetsUpTo s (nodes s) = omega (arith, each, h .nodesFrom) in
-      omega (arith, mul-le-mul sum (h .messageFrom), mul-le-mul (h .nodesFrom) (h .slotFrom))
+      full-cycle-least (omega (arith, each, h .nodesFrom)) (h .messageFrom) (h .nodesFrom) (h .slotFrom)
 
   -- The budgets of all nodes together: sixteen of sixteen at most.
   pub budgets-most : budgetsUpTo s (nodes s) ≤ 256

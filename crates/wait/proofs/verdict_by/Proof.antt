@@ -39,7 +39,7 @@ mul-interference-of c = omega (arith, worth (c .before))
 sub-interference-of : tie.Need-sub-interference-of Inv-loop μ-loop
 sub-interference-of c =
     let cycle = c .before .before .before .before .before .args .timing .cycle in
-    omega (arith, mul-le-mul-right cycle (c .before .before .loop .inv .0), c .before .before .before .before .before .pre .1 .cycleFrom)
+    omega (arith, mul-le-mul-right cycle (c .before .before .loop .inv .0), c .before .before .before .before .before .pre .1 .shares .cycleFrom)
 
 interference-of-requires : tie.Need-interference-of-requires Inv-loop μ-loop
 interference-of-requires c κs = (c .before .before .before .before .before .pre .0, omega (arith, worth (c .before)))
@@ -52,7 +52,7 @@ long-requires-2 c κs = search needs
 
 mul-if1 : tie.Need-mul-if1 Inv-loop μ-loop
 mul-if1 c =
-    let most : c .long2 .result ≤ maxBudget = rw (c .long2 .ensures .0) (c .before .before .before .before .before .before .before .before .pre .1 .budgetTo) in
+    let most : c .long2 .result ≤ maxBudget = rw (c .long2 .ensures .0) (c .before .before .before .before .before .before .before .before .pre .1 .shares .budgetTo) in
     omega (arith, mul-le-mul (le-of-lt (c .before .long .ensures .1)) most)
 
 -- What is known where a number of cycles has been tried.
@@ -88,7 +88,7 @@ returns c =
     let a = c .before .before .before .before .before .before .before .before .before .before .args in
     let p = c .before .before .before .before .before .before .before .before .before .before .pre in
     let tries = c .before .before .before .before .before .before .before .before .tries-worth .ensures in
-    found (interferenceBy (a .periods .now)) (a .timing) (a .deadline) (omega (arith, p .1 .cycleFrom)) (least (c .before)) (omega (arith, tries, c .before .before .before .before .before .before .loop-test .taken)) (c .wait-at .ensures)
+    found (interferenceBy (a .periods .now)) (a .timing) (a .deadline) (omega (arith, p .1 .shares .cycleFrom)) (least (c .before)) (omega (arith, tries, c .before .before .before .before .before .before .loop-test .taken)) (c .wait-at .ensures)
 
 next-try-requires : tie.Need-next-try-requires Inv-loop μ-loop
 next-try-requires c κs =
@@ -127,7 +127,7 @@ returns-2 c =
     let a = c .before .before .before .before .args in
     let p = c .before .before .before .before .pre in
     let past = rw (c .before .before .tries-worth .ensures) at (c .loop-test .left) in
-    none-left (interferenceBy (a .periods .now)) (a .timing) (a .deadline) (omega (arith, p .1 .cycleFrom)) (c .before .loop .inv .1) past
+    none-left (interferenceBy (a .periods .now)) (a .timing) (a .deadline) (omega (arith, p .1 .shares .cycleFrom)) (c .before .loop .inv .1) past
 
 pub verdict-by-spec : {M : Type 1} → statement M
 verdict-by-spec =

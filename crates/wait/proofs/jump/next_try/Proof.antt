@@ -56,7 +56,7 @@ on : (c : tie.After-long) → c .before .before .args .cycles < c .before .befor
 on c =
     let a = c .before .before .args in
     let p = c .before .before .pre in
-    let most : a .cycles ≤ a .h / a .timing .budget = le-div-iff-mul-le (p .1 .budgetFrom) .1 (p .2 .filled) in
+    let most : a .cycles ≤ a .h / a .timing .budget = le-div-iff-mul-le (p .1 .shares .budgetFrom) .1 (p .2 .filled) in
     rw (c .long .ensures .0) (omega arith)
 
 returns : tie.Need-returns

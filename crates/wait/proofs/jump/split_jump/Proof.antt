@@ -5,7 +5,7 @@ use mathlib.Core.Path.{ap, _∙_}
 use native.Mathlib.Omega.{arith}
 use borrow.Author.Needs.{needs}
 use Rattle.wait.specs.Jump.{scale}
-use Rattle.wait.proofs.Split.{split-hope, split-next}
+use Rattle.wait.proofs.Split.{split-below, split-next}
 use Rattle.wait.proofs.jump.split_jump.Statement.{statement}
 use Rattle.wait.proofs.jump.split_jump.Tie as tie
 
@@ -15,7 +15,7 @@ mul-split-at c = search needs
 sub-split-at : tie.Need-sub-split-at
 sub-split-at c =
     let p = c .before .before .pre in
-    let some : 1 ≤ c .before .before .args .timing .cycle = omega (arith, p .1 .cycleFrom) in
+    let some : 1 ≤ c .before .before .args .timing .cycle = omega (arith, p .1 .shares .cycleFrom) in
     omega (arith, one-le-mul (p .2) some)
 
 split-at-requires : tie.Need-split-at-requires
@@ -35,7 +35,7 @@ returns c =
       c .if1 .taken,
       c .before .left-of .ensures,
       c .before .before .split-at .ensures .1,
-      split-hope (a .periods .now) (a .timing) (a .cycles) (a .reach) i (p .2) (omega (arith, p .1 .cycleFrom)) from enough,
+      split-below (a .periods .now) (a .timing) (a .cycles) (a .reach) i (p .2) (omega (arith, p .1 .shares .cycleFrom)) from enough,
     ))
 
 long-requires : tie.Need-long-requires
@@ -69,7 +69,7 @@ returns-3 c =
     let left = c .before .before .before .before .left-of .ensures ∙ ap (λ n. a .timing .budget * scale - n) (split .1) in
     λ i from enough.
     rw (split .0, left)
-    (split-next (a .periods .now) (a .timing) (a .cycles) (a .reach) i (p .2) (omega (arith, p .1 .cycleFrom)) from enough)
+    (split-next (a .periods .now) (a .timing) (a .cycles) (a .reach) i (p .2) (omega (arith, p .1 .shares .cycleFrom)) from enough)
 
 pub split-jump-spec : {M : Type 1} → statement M
 split-jump-spec =

@@ -1,4 +1,4 @@
--- `budgets::play_round` meets its contract: the row of checks that is left equals the whole, the nodes up to the present one are judged, and the
+-- `budgets::run_round` meets its contract: the row of checks that is left equals the whole, the nodes up to the present one are judged, and the
 -- copy is raised up to there. Assumes nothing.
 use Prim.Native.Nat.{suc, pred, _≤_, _<_, _-_, _+_}
 use mathlib.Core.Path.{_≡_, refl, sym, ap, ap₂, _∙_}
@@ -18,8 +18,8 @@ use Rattle.budgets.specs.Rounds.{budgetIn, hasLate, raisedBudget, raised
 use Rattle.budgets.proofs.Rows.{Making, made-word, made-row}
 use Rattle.budgets.proofs.Ranges.{row-shares}
 use Rattle.budgets.proofs.Judging.{JudgedTo, judged-none, judged-next, judged-all, stuck-named, stuck-unnamed}
-use Rattle.budgets.proofs.play_round.Statement.{statement}
-use Rattle.budgets.proofs.play_round.Tie as tie
+use Rattle.budgets.proofs.run_round.Statement.{statement}
+use Rattle.budgets.proofs.run_round.Tie as tie
 
 abbrev Inv-loop : tie.InvT-loop
 Inv-loop sheet next₀ row n cycle late₀ i₀ next late i =
@@ -191,8 +191,8 @@ returns-2 c =
       ),
     )
 
-pub play-round-spec : {M : Type 1} → statement M
-play-round-spec =
+pub run-round-spec : {M : Type 1} → statement M
+run-round-spec =
     tie.close
     (tie.spec
     Inv-loop
