@@ -1,5 +1,5 @@
 // "Find the budgets": the smallest workable budgets of a line, in rounds. A row of budgets is an array by value: a round judges by the
-// row that it is handed, while it raises a copy.
+// copy that it is handed, while it raises the row that it is lent.
 ghost use mathlib.Core.Path.{_≡_};
 ghost use mathlib.Core.Bool.{cond, not, _&&_, _||_};
 ghost use Prim.Native.Nat.{suc, _≤_};
