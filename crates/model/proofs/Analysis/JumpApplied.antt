@@ -2,7 +2,6 @@
 -- fill the turns. So what they are stated for beyond today's use is used too. Assumes nothing.
 use Prim.Native.Nat.{ℕ, _+_, _-_, _*_, _≤_}
 use native.Mathlib.Omega.{arith}
-use mathlib.Core.Path.{_≡_, refl}
 use Rattle.model.specs.Analysis.{mostReleases}
 use Rattle.model.proofs.Analysis.Interference.{releases-grow}
 use Rattle.model.proofs.Analysis.Jump.{AtLeast, releases-steady, held-least, rate-least, jump}
