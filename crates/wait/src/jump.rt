@@ -123,7 +123,8 @@ pub fn next_try(periods: &[u32], timing: Timing, cycles: u32, h: u64, last: u32,
     }
 }
 
-// How far to reach for the jump after this one: some times its length, or all, where the next is the first by a split.
+// How far to reach for the jump after this one: some times its length, or all, where the next is the first by a split. Nothing is
+// promised of it: a jump is sound with any reach.
 pub fn reach_after(cycles: u32, next: u32, cycle: u32) -> u32
     requires { ⌜ (cycles ≤ next) × ((next - cycles) * cycle ≤ maxTime + 1) ⌝ }
 {
