@@ -5,8 +5,11 @@
 //! second program, which searches for J one by one, in one run); rooms are not
 //! cleared between runs. `bench slowest WHAT SECONDS SEED` looks for sheets on
 //! which the proved search is slow: WHAT is `stream`, `sheet` or `budgets`.
+//! `bench command SECONDS SEED` times whole runs of the command beside the proved
+//! programs; both are made first.
 
 mod budgets;
+mod command;
 mod search;
 mod slowest;
 
@@ -330,6 +333,12 @@ fn write() {
     write_pair("sheet A", &tables_a);
 }
 
+/// A number among the arguments, or else this one.
+fn number(place: usize, unset: u64) -> u64 {
+    let given = std::env::args().nth(place);
+    given.and_then(|text| text.parse().ok()).unwrap_or(unset)
+}
+
 /// Looks for slow sheets, if what is asked of them is known.
 fn look(asked: Option<&str>) -> bool {
     let asked = match asked {
@@ -338,10 +347,6 @@ fn look(asked: Option<&str>) -> bool {
         Some("budgets") => slowest::Sought::Budgets,
         _ => return false,
     };
-    let number = |place, unset| {
-        let given = std::env::args().nth(place);
-        given.and_then(|text| text.parse().ok()).unwrap_or(unset)
-    };
     slowest::slowest(asked, number(3, 10), number(4, 1));
     true
 }
@@ -349,6 +354,7 @@ fn look(asked: Option<&str>) -> bool {
 fn usage() -> ExitCode {
     eprintln!("usage: bench admit | search | hardest | replay | write | budgets");
     eprintln!("       bench slowest stream|sheet|budgets SECONDS SEED");
+    eprintln!("       bench command SECONDS SEED");
     ExitCode::from(2)
 }
 
@@ -361,6 +367,12 @@ fn main() -> ExitCode {
         Some("replay") => replay(),
         Some("write") => write(),
         Some("budgets") => budgets::budgets(),
+        Some("command") => {
+            if let Err(error) = command::command(number(2, 10), number(3, 1)) {
+                eprintln!("{error}");
+                return ExitCode::FAILURE;
+            }
+        }
         Some("slowest") if look(words.next().as_deref()) => {}
         _ => return usage(),
     }
