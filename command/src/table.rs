@@ -1,5 +1,7 @@
 //! Text tables: columns of one width, two spaces between them.
 
+use std::ops::RangeInclusive;
+
 /// On which side a column's cells are aligned.
 #[derive(Clone, Copy, PartialEq, Eq)]
 pub enum Align {
@@ -28,9 +30,23 @@ pub fn table(columns: &[Column], rows: &[Vec<String>]) -> String {
     text
 }
 
+/// The columns of a terminal that a text takes: two for a character of the East
+/// Asian scripts, which is twice as wide.
 fn width(cell: &str) -> usize {
-    cell.chars().count()
+    let wide = |c: char| WIDE.iter().any(|range| range.contains(&c));
+    cell.chars().map(|c| 1 + usize::from(wide(c))).sum()
 }
+
+/// Hangul, kana, ideographs and full-width forms: what Unicode calls wide.
+const WIDE: [RangeInclusive<char>; 7] = [
+    '\u{1100}'..='\u{115f}',
+    '\u{2e80}'..='\u{303e}',
+    '\u{3041}'..='\u{a4cf}',
+    '\u{ac00}'..='\u{d7a3}',
+    '\u{f900}'..='\u{faff}',
+    '\u{ff01}'..='\u{ff60}',
+    '\u{20000}'..='\u{3fffd}',
+];
 
 fn column_width(columns: &[Column], rows: &[Vec<String>], index: usize) -> usize {
     let heading = columns.get(index).map_or(0, |(heading, _)| width(heading));
@@ -77,6 +93,16 @@ mod tests {
         assert_eq!(
             table(&columns, &rows),
             "node     wait\nfan   12.5 ms\nÖfen        - over\n"
+        );
+    }
+
+    #[test]
+    fn wide_characters_take_two_columns() {
+        let rows = [["乾燥機", "1"], ["ｱ", "2"], ["сушилка", "3"]];
+        let rows = rows.map(|row| row.map(String::from).to_vec());
+        assert_eq!(
+            table(&[("node", Align::Left), ("n", Align::Right)], &rows),
+            "node     n\n乾燥機   1\nｱ        2\nсушилка  3\n"
         );
     }
 
