@@ -9,7 +9,7 @@
 
 #define WORDS(table) (table), sizeof(table) / sizeof(*(table))
 
-static const uint32_t sheet[] = {2, 5, 1, 9, 2, 1, 13, 1, 2, 40, 40, 60, 60, 30, 30};
+static const uint32_t sheet[] = {2, 5, 1, 9, 2, 1, 15, 1, 2, 40, 40, 0, 60, 60, 0, 30, 30, 0};
 static const uint32_t releases[] = {0, 1, 0, 2, 1, 3};
 
 static void stop(const char *why, struct wistorvan_answer a) {
@@ -86,7 +86,7 @@ static void be_refused(void) {
 
     show_refusal("an empty sheet", wistorvan_check_sheet(NULL, 0));
     memcpy(late, sheet, sizeof late);
-    late[10] = late[12] = 38;
+    late[10] = late[13] = 38;
     a = wistorvan_admit(WORDS(late), WORDS(waits));
     if (waits[0] != 7 || waits[1] != 8 || waits[2] != 9)
         stop("the room was changed by", a);

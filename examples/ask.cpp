@@ -108,7 +108,7 @@ template <typename Question> void show_refused(const std::string &what, Word num
 }
 
 void ask() {
-    const Words sheet{2, 5, 1, 9, 2, 1, 13, 1, 2, 40, 40, 60, 60, 30, 30};
+    const Words sheet{2, 5, 1, 9, 2, 1, 15, 1, 2, 40, 40, 0, 60, 60, 0, 30, 30, 0};
     const Words log{0, 1, 0, 2, 1, 3};
 
     check_sheet(sheet);
@@ -131,7 +131,7 @@ void ask() {
 
     show_refused("an empty sheet", WISTORVAN_SHEET_TOO_SHORT, [] { check_sheet({}); });
     Words late = sheet;
-    late[10] = late[12] = 38;
+    late[10] = late[13] = 38;
     show_refused("deadlines of 38", WISTORVAN_LATE, [&] { admit(late); });
 }
 

@@ -13,13 +13,14 @@
 static const uint32_t line[] = {
     3, 5, 1,
     12, 4, 2, /* line controller */
-    20, 2, 1, /* burner */
-    24, 2, 4, /* recorder */
-    200, 59, 500, 69, 1000, 49, 400, 69, /* belt speed, damper command, burner shut-off, fan speed: period, deadline */
-    250, 39, 1000, 49, /* flame signal, gas pressure */
-    1000, 1000, 10000, 10000, /* recorder block, recorder state */
+    24, 2, 1, /* burner */
+    30, 2, 4, /* recorder */
+    /* Belt speed, damper command, burner shut-off, fan speed: period, deadline, jitter. */
+    200, 59, 0, 500, 69, 0, 1000, 49, 0, 400, 69, 0,
+    250, 39, 0, 1000, 49, 0, /* flame signal, gas pressure */
+    1000, 1000, 0, 10000, 10000, 0, /* recorder block, recorder state */
 };
-enum { NODES = 3, SHUT_OFF_DEADLINE = 17 };
+enum { NODES = 3, SHUT_OFF_DEADLINE = 19 };
 
 /* Where the budget of a node stands, the first node being 0. */
 static size_t budget_at(size_t node) { return 5 + 3 * node; }

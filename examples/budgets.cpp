@@ -108,13 +108,14 @@ int main() {
     Words sheet{
         3, 5, 1,
         12, 4, 2, // line controller
-        20, 2, 1, // burner
-        24, 2, 4, // recorder
-        200, 59, 500, 69, 1000, 49, 400, 69, // belt speed, damper command, burner shut-off, fan speed: period, deadline
-        250, 39, 1000, 49, // flame signal, gas pressure
-        1000, 1000, 10000, 10000, // recorder block, recorder state
+        24, 2, 1, // burner
+        30, 2, 4, // recorder
+        // Belt speed, damper command, burner shut-off, fan speed: period, deadline, jitter.
+        200, 59, 0, 500, 69, 0, 1000, 49, 0, 400, 69, 0,
+        250, 39, 0, 1000, 49, 0, // flame signal, gas pressure
+        1000, 1000, 0, 10000, 10000, 0, // recorder block, recorder state
     };
-    constexpr std::size_t shut_off_deadline = 17;
+    constexpr std::size_t shut_off_deadline = 19;
     try {
         ask(sheet);
         find("the smallest budgets", sheet);

@@ -24,7 +24,7 @@ extern "C" {
 #define WISTORVAN_MAX_NODES 16
 #define WISTORVAN_MAX_STREAMS 256
 #define WISTORVAN_MAX_RELEASES 4096
-#define WISTORVAN_LONGEST_SHEET 563
+#define WISTORVAN_LONGEST_SHEET 819
 
 /* The first number of an answer, by name: success, or what is refused. Of all refusals that apply, the first in the order that
    stands at each function is given. 12 to 15 are kept for later ones, so expect numbers that have no name here yet. */
@@ -39,17 +39,18 @@ enum wistorvan_number {
     WISTORVAN_BAD_DURATION = 3,
     /* The contents. First, the sheet has fewer than 3 + 3n words, or the tables of budgets and counts (write_sheet) differ in
        length: place 0, 0. Then, node by node, a row has a wrong place of the body, more than 16 streams or a budget that is not
-       1 to 16: place node, 0. Then, the total length is wrong, or the tables of periods and deadlines (write_sheet) do not have
-       a word for each stream counted: place 0, 0. */
+       1 to 16: place node, 0. Then, the total length is wrong, or the tables of periods, deadlines and jitters (write_sheet) do
+       not have a word for each stream counted: place 0, 0. */
     WISTORVAN_BAD_CONTENTS = 4,
-    /* A period is not 1 to 1,000,000,000 or a deadline not 1 to its period, on the sheet or in the tables (write_sheet), first in
-       sheet order. Place: node, stream. */
+    /* A period is not 1 to 1,000,000,000, a deadline not 1 to its period or a jitter not less than its period, on the sheet or in
+       the tables (write_sheet), first in sheet order. Place: node, stream. */
     WISTORVAN_BAD_STREAM = 5,
     /* The room is shorter than one word a stream (admit) or a release (replay, step), than the sheet (write_sheet), or than
        sixteen words, however few the nodes are (find_budgets). Place: 0, 0. */
     WISTORVAN_ROOM_TOO_SHORT = 6,
-    /* A stream is late: a message of it could be delivered after its deadline (delivery is when its turn's protocol slot ends).
-       The first in sheet order (admit) or the asked one (one_stream). Place: node, stream. */
+    /* A stream is late: a message of it could be delivered after its deadline, which runs from its event, jitter ticks before its
+       queuing at most (delivery is when its turn's protocol slot ends). The first in sheet order (admit) or the asked one
+       (one_stream). Place: node, stream. */
     WISTORVAN_LATE = 7,
     /* The sheet has no such stream (one_stream). Place: node, stream as asked. */
     WISTORVAN_NO_SUCH_STREAM = 8,
@@ -82,14 +83,15 @@ struct wistorvan_bus {
 /* Whether a sheet is valid: 0 0 0 if so. Refusals 1 to 5. */
 struct wistorvan_answer wistorvan_check_sheet(const uint32_t *sheet, size_t sheet_words);
 
-/* One stream of a node: its listed wait and J. Refusals 1 to 5, 8, 7. */
+/* One stream of a node: its listed wait, in ticks from queuing to begin, and J. Refusals 1 to 5, 8, 7. */
 struct wistorvan_answer wistorvan_one_stream(const uint32_t *sheet, size_t sheet_words, uint32_t node, uint32_t stream);
 
 /* Number of streams and full cycle; the listed waits, in sheet order, in the first words of the room. Refusals 1 to 5, 6, 7. */
 struct wistorvan_answer wistorvan_admit(const uint32_t *sheet, size_t sheet_words, uint32_t *room, size_t room_words);
 
 /* Turns started and the tick the next would start; a begin tick for each release, in log order, in the first words of the room,
-   or WISTORVAN_NOT_BEGUN. Refusals 1 to 5, 9, 10, 6. */
+   or WISTORVAN_NOT_BEGUN. The log has two words a release: the tick at which it is queued, and the running number of its stream.
+   Refusals 1 to 5, 9, 10, 6. */
 struct wistorvan_answer wistorvan_replay(const uint32_t *sheet, size_t sheet_words, const uint32_t *log, size_t log_words,
                                          uint32_t horizon, uint32_t *room, size_t room_words);
 
@@ -100,13 +102,15 @@ struct wistorvan_answer wistorvan_step(const uint32_t *sheet, size_t sheet_words
                                        struct wistorvan_bus *bus, uint32_t *room, size_t room_words);
 
 /* Makes a sheet from tables, in the first words of the room: words written and full cycle. Counts of streams and budgets have a
-   word for each node, n is the length of the counts; periods and deadlines have a word for each stream, node by node. Only what
-   is valid is written; whether it is admitted is for admit to say. Refusals 2, 3, 4, 5, 6. */
+   word for each node, n is the length of the counts; periods, deadlines and jitters have a word for each stream, node by node.
+   Events of a stream are at least its period apart, a message is queued 0 to jitter ticks after its event, and its deadline runs
+   from the event. Only what is valid is written; whether it is admitted is for admit to say. Refusals 2, 3, 4, 5, 6. */
 struct wistorvan_answer wistorvan_write_sheet(uint32_t message_ticks, uint32_t slot_ticks,
                                               const uint32_t *counts, size_t counts_words,
                                               const uint32_t *budgets, size_t budgets_words,
                                               const uint32_t *periods, size_t periods_words,
                                               const uint32_t *deadlines, size_t deadlines_words,
+                                              const uint32_t *jitters, size_t jitters_words,
                                               uint32_t *room, size_t room_words);
 
 /* The smallest budgets with which no stream is late: their sum and the full cycle with them; the budgets, node by node and 0 past

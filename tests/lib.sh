@@ -21,6 +21,16 @@ words() { # NAME NUMBERS..
     to_words "$file" <<<"$*"
 }
 
+# 16 nodes of 16 streams: 819 words, 3,276 bytes, the longest valid sheet.
+longest_sheet() { # NAME
+    words "$1" $(awk 'BEGIN {
+        print "16 1 1"
+        for (k = 0; k < 16; k++) print 51 + 48 * k, 16, 16
+        for (i = 0; i < 256; i++) print 100000, 100000, 0
+    }')
+    of_bytes "$work/$1" 3276
+}
+
 # A file that is not as long as it should be asks something else.
 of_bytes() { # FILE BYTES
     [ "$(wc -c <"$1")" -eq "$2" ] || { echo "$(basename "$1") is not of $2 bytes"; failed=$((failed + 1)); }

@@ -48,21 +48,33 @@ impl Random {
 }
 
 /// A sheet with these nodes: a budget and the streams' periods and deadlines.
+/// No stream has jitter.
 fn sheet(message: u32, slot: u32, nodes: &[(u32, Vec<(u32, u32)>)]) -> Vec<u32> {
+    jittery_sheet(message, slot, nodes, |_| 0)
+}
+
+/// The same, with a jitter for each period.
+fn jittery_sheet(
+    message: u32,
+    slot: u32,
+    nodes: &[(u32, Vec<(u32, u32)>)],
+    jitter: impl Fn(u32) -> u32,
+) -> Vec<u32> {
     let mut words = vec![nodes.len() as u32, message, slot];
     let mut place = 3 + 3 * nodes.len() as u32;
     for (budget, streams) in nodes {
         words.extend([place, streams.len() as u32, *budget]);
-        place += 2 * streams.len() as u32;
+        place += 3 * streams.len() as u32;
     }
-    for (period, deadline) in nodes.iter().flat_map(|(_, streams)| streams) {
-        words.extend([*period, *deadline]);
+    for &(period, deadline) in nodes.iter().flat_map(|(_, streams)| streams) {
+        words.extend([period, deadline, jitter(period)]);
     }
     words
 }
 
-/// Admitted sheets of 16 nodes with 16 streams each, with J from 1 to some.
-fn full_sheets(count: usize) -> Vec<Vec<u32>> {
+/// Admitted sheets of 16 nodes with 16 streams each, with J from 1 to some. A
+/// jitter is such a part of the period, or none.
+fn full_sheets(count: usize, part: Option<u32>) -> Vec<Vec<u32>> {
     let mut random = Random(20_261_115);
     let mut sheets = Vec::new();
     while sheets.len() < count {
@@ -74,10 +86,11 @@ fn full_sheets(count: usize) -> Vec<Vec<u32>> {
                 (budget, streams.map(|period| (period, period)).collect())
             })
             .collect();
-        let words = sheet(
+        let words = jittery_sheet(
             1 + random.below(20) as u32,
             1 + random.below(5) as u32,
             &nodes,
+            |period| part.map_or(0, |part| period / part),
         );
         if peer::admit(&words, &mut [0; 256]).number == 0 {
             sheets.push(words);
@@ -96,7 +109,12 @@ fn print_pair(what: &str, per: f64, proved: f64, second: f64) {
 }
 
 fn admit() {
-    let sheets = full_sheets(500);
+    admit_pair("admit, a sheet", None);
+    admit_pair("admit, a sheet with jitters", Some(4));
+}
+
+fn admit_pair(what: &str, part: Option<u32>) {
+    let sheets = full_sheets(500, part);
     let mut room = [0u32; 256];
     let mut largest = 0;
     for words in &sheets {
@@ -120,7 +138,7 @@ fn admit() {
             black_box(peer::admit(black_box(words), &mut room));
         }
     });
-    print_pair("admit, a sheet", sheets.len() as f64, proved, second);
+    print_pair(what, sheets.len() as f64, proved, second);
 }
 
 /// Times one replay by both, and prints it for a turn of the second program.
@@ -241,7 +259,7 @@ fn replay_longest() {
     );
 }
 
-const SHEET_A: [u32; 15] = [2, 5, 1, 9, 2, 1, 13, 1, 2, 40, 40, 60, 60, 30, 30];
+const SHEET_A: [u32; 18] = [2, 5, 1, 9, 2, 1, 15, 1, 2, 40, 40, 0, 60, 60, 0, 30, 30, 0];
 
 fn replay() {
     let far = 1_000_000_000;
@@ -285,6 +303,7 @@ fn write_pair(what: &str, tables: &Tables) {
         budgets: &tables.budgets,
         periods: &tables.periods,
         deadlines: &tables.deadlines,
+        jitters: &tables.jitters,
     };
     let mut room = [0u32; LONGEST_SHEET];
     let answer = wistorvan::raw::write_sheet(&lent, &mut room);
@@ -315,6 +334,7 @@ fn write_even(nodes: usize, streams: u32) {
         budgets: vec![4; nodes],
         periods: vec![1000; all],
         deadlines: vec![900; all],
+        jitters: vec![100; all],
     };
     write_pair(&format!("{nodes} nodes of {streams} streams"), &tables);
 }
@@ -329,6 +349,7 @@ fn write() {
         budgets: vec![1, 2],
         periods: vec![40, 60, 30],
         deadlines: vec![40, 60, 30],
+        jitters: vec![0; 3],
     };
     write_pair("sheet A", &tables_a);
 }

@@ -4,7 +4,7 @@
 use std::hint::black_box;
 use std::time::Instant;
 
-use crate::{median, sheet};
+use crate::{jittery_sheet, median, sheet};
 
 /// The longest period and deadline.
 const LONGEST: u32 = 1_000_000_000;
@@ -20,6 +20,14 @@ fn node(budget: u32, fast: &[u32], slow: usize) -> (u32, Vec<(u32, u32)>) {
 /// The sheet of one node with the shortest cycle, C = 2.
 fn one_node(fast: &[u32], slow: usize) -> Vec<u32> {
     sheet(1, 1, &[node(1, fast, slow)])
+}
+
+/// None for the slow ones, which would be late by it.
+fn longest_jitter(period: u32) -> u32 {
+    match period {
+        LONGEST => 0,
+        period => period - 1,
+    }
 }
 
 /// What is asked of a sheet.
@@ -141,6 +149,11 @@ pub fn search() {
         row(
             "five streams above, nearly full",
             one_node(&NEARLY_FULL, 1),
+            Asked::Stream(6),
+        ),
+        row(
+            "the same with the longest jitters",
+            jittery_sheet(1, 1, &[node(1, &NEARLY_FULL, 1)], longest_jitter),
             Asked::Stream(6),
         ),
         row("overload: 2 2 above", one_node(&[2], 1), Asked::Stream(2)),

@@ -4,7 +4,7 @@ use wistorvan::{ListedWait, Refusal};
 
 use crate::json::{self, Value};
 use crate::line::Line;
-use crate::plan::{Place, Plan, Sheet};
+use crate::plan::{Place, Plan, Sheet, StreamPlan};
 
 /// The answer about one stream.
 #[derive(Clone, Copy, PartialEq, Eq, Debug)]
@@ -12,10 +12,11 @@ pub struct StreamAnswer {
     pub place: Place,
     pub period: u32,
     pub deadline: u32,
+    pub jitter: u32,
     /// None if the stream is late.
     pub listed: Option<ListedWait>,
-    /// The latest delivery after queuing. A late stream has one too, unless no J
-    /// was found for it.
+    /// The latest delivery after the event, from which the deadline runs too. A
+    /// late stream has one too, unless no J was found for it.
     pub delivery: Option<u64>,
 }
 
@@ -67,16 +68,21 @@ impl Answers {
 }
 
 fn ask_stream(plan: &Plan, sheet: &Sheet, place: Place) -> Result<StreamAnswer, Refusal> {
-    let (period, deadline) = plan.stream(place).unwrap_or_default();
+    let StreamPlan {
+        period,
+        deadline,
+        jitter,
+    } = plan.stream(place).unwrap_or_default();
     let listed = sheet.one_stream(place)?;
     let delivery = match listed {
-        Some(listed) => Some(plan.delivery(place.0, listed.cycles, sheet.cycle)),
+        Some(listed) => Some(plan.delivery(place, listed.cycles, sheet.cycle)),
         None => plan.needed_delivery(place)?,
     };
     Ok(StreamAnswer {
         place,
         period,
         deadline,
+        jitter,
         listed,
         delivery,
     })
@@ -107,6 +113,7 @@ pub fn streams_value(line: &Line, answers: &Answers) -> Value {
             ("stream", Value::text(stream)),
             ("period", Value::number(answer.period)),
             ("deadline", Value::number(answer.deadline)),
+            ("jitter", Value::number(answer.jitter)),
             ("late", Value::Bool(answer.late())),
             (
                 "wait",

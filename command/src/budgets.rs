@@ -223,10 +223,10 @@ mod tests {
     #[test]
     fn budgets_are_replaced_and_the_rest_is_kept() {
         let line = "\u{feff}message 1 tick # budget 9\r\nslot 5 ticks\r\n\r\nnode  a\tbudget  13 # its budget\r\n \
-                    stream b period 50 ticks deadline 50 ticks\r\nnode c#\r\nnode d budget 16";
+                    stream b period 50 ticks deadline 50 ticks jitter 3 ticks\r\nnode c#\r\nnode d budget 16";
         let loaded = load(line, Some("\u{feff}node r\n"));
         let expected = "\u{feff}message 1 tick # budget 9\r\nslot 5 ticks\r\n\r\nnode  a\tbudget  1 # its budget\r\n \
-                        stream b period 50 ticks deadline 50 ticks\r\nnode c budget 1#\r\nnode d budget 1\nnode r budget 1\n";
+                        stream b period 50 ticks deadline 50 ticks jitter 3 ticks\r\nnode c budget 1#\r\nnode d budget 1\nnode r budget 1\n";
         assert_eq!(text_with(&loaded, &[1, 1, 1, 1]).unwrap(), expected);
     }
 

@@ -16,6 +16,13 @@ use crate::report::{
 };
 use crate::table::{table, Align, Column};
 
+const JITTER: Column = ("jitter", Align::Right);
+
+/// What times count from, where some messages are queued after their events.
+const EVENT_NOTE: &str =
+    "Waits count from the first tick at or after a message is queued; deliveries and deadlines from \
+     the first at or after its event, which is up to its jitter earlier.";
+
 /// The answers about a line; with a recorder, those about the line without it
 /// too.
 struct Check<'l> {
@@ -154,16 +161,11 @@ impl Check<'_> {
         }
     }
 
+    fn has_jitter(&self) -> bool {
+        self.answers.streams.iter().any(|stream| stream.jitter > 0)
+    }
+
     fn rows(&self) -> String {
-        const COLUMNS: [Column; 7] = [
-            ("node", Align::Left),
-            ("stream", Align::Left),
-            ("longest wait", Align::Right),
-            ("latest delivery", Align::Right),
-            ("deadline", Align::Right),
-            ("left", Align::Right),
-            ("", Align::Remark),
-        ];
         let scale = &self.line.scale;
         let row = |answer: &StreamAnswer| {
             let (node, stream) = names(self.line, answer.place);
@@ -171,6 +173,7 @@ impl Check<'_> {
             vec![
                 node.to_string(),
                 stream.to_string(),
+                self.jitter(answer),
                 cell(scale, answer.wait()),
                 cell(scale, answer.delivery),
                 scale.cell(answer.deadline.into()),
@@ -178,23 +181,23 @@ impl Check<'_> {
                 remark,
             ]
         };
-        let rows: Vec<Vec<String>> = self.answers.streams.iter().map(row).collect();
-        table(&COLUMNS, &rows)
+        let rows = self.answers.streams.iter().map(row).collect();
+        self.table(
+            vec![
+                ("node", Align::Left),
+                ("stream", Align::Left),
+                JITTER,
+                ("longest wait", Align::Right),
+                ("latest delivery", Align::Right),
+                ("deadline", Align::Right),
+                ("left", Align::Right),
+                ("", Align::Remark),
+            ],
+            rows,
+        )
     }
 
     fn rows_before_after(&self, before: &Answers) -> String {
-        const COLUMNS: [Column; 10] = [
-            ("node", Align::Left),
-            ("stream", Align::Left),
-            ("deadline", Align::Right),
-            ("wait before", Align::Right),
-            ("wait after", Align::Right),
-            ("delivery before", Align::Right),
-            ("delivery after", Align::Right),
-            ("loses", Align::Right),
-            ("left", Align::Right),
-            ("", Align::Remark),
-        ];
         let scale = &self.line.scale;
         let row = |after: &StreamAnswer| {
             let (node, stream) = names(self.line, after.place);
@@ -208,6 +211,7 @@ impl Check<'_> {
                 node.to_string(),
                 stream.to_string(),
                 scale.cell(after.deadline.into()),
+                self.jitter(after),
                 cell(scale, before.and_then(StreamAnswer::wait)),
                 cell(scale, after.wait()),
                 cell(scale, delivered),
@@ -217,8 +221,39 @@ impl Check<'_> {
                 remark,
             ]
         };
-        let rows: Vec<Vec<String>> = self.answers.streams.iter().map(row).collect();
-        table(&COLUMNS, &rows)
+        let rows = self.answers.streams.iter().map(row).collect();
+        self.table(
+            vec![
+                ("node", Align::Left),
+                ("stream", Align::Left),
+                ("deadline", Align::Right),
+                JITTER,
+                ("wait before", Align::Right),
+                ("wait after", Align::Right),
+                ("delivery before", Align::Right),
+                ("delivery after", Align::Right),
+                ("loses", Align::Right),
+                ("left", Align::Right),
+                ("", Align::Remark),
+            ],
+            rows,
+        )
+    }
+
+    /// A table of streams. Where none has jitter, it has no column of it.
+    fn table(&self, mut columns: Vec<Column>, mut rows: Vec<Vec<String>>) -> String {
+        if !self.has_jitter() {
+            if let Some(index) = columns.iter().position(|column| *column == JITTER) {
+                columns.remove(index);
+                rows.iter_mut().for_each(|row| drop(row.remove(index)));
+            }
+        }
+        table(&columns, &rows)
+    }
+
+    fn jitter(&self, answer: &StreamAnswer) -> String {
+        let jitter = Some(u64::from(answer.jitter)).filter(|jitter| *jitter > 0);
+        cell(&self.line.scale, jitter)
     }
 
     /// What is left of the deadline, and a remark where it is not enough.
@@ -261,7 +296,12 @@ impl Check<'_> {
             false => String::new(),
         };
         let delivery = scale.show(delivery);
-        format!("{name}: up to {delivery} from queuing to delivery, {over} over its deadline of {deadline}.{longer}{already}")
+        // Without jitter a message is queued at its event.
+        let start = match answer.jitter {
+            0 => "queuing",
+            _ => "its event",
+        };
+        format!("{name}: up to {delivery} from {start} to delivery, {over} over its deadline of {deadline}.{longer}{already}")
     }
 
     fn notes(&self) -> Vec<String> {
@@ -273,7 +313,10 @@ impl Check<'_> {
         };
         let mut notes = vec![format!("Full cycle {cycle}{before}.")];
         notes.extend(rounded_notes(self.line));
-        notes.extend(queued_note(scale));
+        notes.extend(match self.has_jitter() {
+            true => Some(EVENT_NOTE.to_string()),
+            false => queued_note(scale),
+        });
         notes
     }
 }

@@ -29,6 +29,8 @@ pub struct StreamDraft {
     pub name: String,
     pub period: Duration,
     pub deadline: Duration,
+    /// None where the stream queues its messages at once.
+    pub jitter: Option<Duration>,
 }
 
 /// A node as it is written.

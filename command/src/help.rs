@@ -43,9 +43,10 @@ wistorvan check: is every stream of a line delivered by its deadline?
 Usage: wistorvan check LINE [--with RECORDER] [--json]
 
 The first line says yes or no. A table has each stream's longest wait, from
-queuing to its begin on the bus; its latest delivery, at the end of its turn;
-its deadline, and what is left of it. For streams that are late it says by how
-much, and what would help.
+queuing to its begin on the bus; its latest delivery, from its event, which is
+up to its jitter before it is queued, to the end of its turn; its deadline,
+which also runs from the event, and what is left of it. For streams that are
+late it says by how much, and what would help.
 
   --with RECORDER  adds the node of this file as the last, and shows each stream
                    before and after
@@ -85,7 +86,7 @@ LOG has a release a line: its time, a comma, semicolon, tab or spaces, and
 NODE.STREAM. A time has a unit, or is in the unit of LINE; a first line as
 time_ms,stream names another. Each message's wait stands beside the listed wait
 of its stream, which it cannot exceed while the stream and those ranked above it
-in its node keep their periods.
+in its node keep their periods and jitters. Times are those of queuing.
 
   --with RECORDER  adds the node of this file as the last
   --until TIME     replays up to this time; without it, up to the last begin

@@ -105,9 +105,10 @@ fn one_budget(plan: &Plan, node: usize) -> Result<Option<BudgetChange>, Refusal>
 /// never makes it earlier. So each delivery found is the next deadline to ask
 /// about.
 fn longer_deadline(plan: &Plan, place: Place) -> Result<Option<LongerDeadline>, Refusal> {
-    let Some((period, from)) = plan.stream(place) else {
+    let Some(stream) = plan.stream(place) else {
         return Ok(None);
     };
+    let from = stream.deadline;
     let mut deadline = from;
     loop {
         let changed = plan.with_deadline(place, deadline);
@@ -123,7 +124,7 @@ fn longer_deadline(plan: &Plan, place: Place) -> Result<Option<LongerDeadline>, 
         let needed = changed
             .needed_delivery(place)?
             .and_then(|needed| u32::try_from(needed).ok());
-        match needed.filter(|needed| *needed > deadline && *needed <= period) {
+        match needed.filter(|needed| *needed > deadline && *needed <= stream.period) {
             Some(needed) => deadline = needed,
             None => return Ok(None),
         }

@@ -1,6 +1,6 @@
 //! A line in ticks: its nodes and streams with the lines that they stand in, and
-//! what was rounded. Periods and deadlines are rounded down, message and slot
-//! up: that is the safe side.
+//! what was rounded. Periods and deadlines are rounded down, message, slot and
+//! jitters up: that is the safe side.
 
 use crate::draft::{Draft, NodeDraft, StreamDraft, Written};
 use crate::duration::Duration;
@@ -24,6 +24,7 @@ pub struct Stream {
     pub name: String,
     pub period: u32,
     pub deadline: u32,
+    pub jitter: u32,
 }
 
 #[derive(Clone, PartialEq, Eq, Debug)]
@@ -164,12 +165,17 @@ impl Converter<'_> {
         let what = |key: &str| format!("{key} of {node}.{name}");
         let period = self.ticks(*line, &what("period"), &draft.period, Round::Down);
         let deadline = self.ticks(*line, &what("deadline"), &draft.deadline, Round::Down);
+        let jitter = match &draft.jitter {
+            Some(jitter) => self.ticks(*line, &what("jitter"), jitter, Round::Up)?.0,
+            None => 0,
+        };
         let ((period, exact_period), (deadline, exact_deadline)) = (period?, deadline?);
         let stream = Stream {
             line: *line,
             name: name.clone(),
             period,
             deadline,
+            jitter,
         };
         Some((stream, (exact_deadline, exact_period)))
     }
@@ -228,12 +234,13 @@ mod tests {
 
     #[test]
     fn durations_are_rounded_to_the_safe_side() {
-        let text = "tick 1 ms\nmessage 0.2 ms\nslot 1.1 ms\nnode a budget 1\nstream b period 99.9 ms deadline 50.5 ms";
+        let text = "tick 1 ms\nmessage 0.2 ms\nslot 1.1 ms\nnode a budget 1\n\
+                    stream b period 99.9 ms deadline 50.5 ms jitter 0.1 ms";
         let loaded = load(text).unwrap_or_else(|failure| panic!("{failure:?}"));
         let line = loaded.line;
         assert_eq!((line.message.ticks, line.slot.ticks), (1, 2));
         let stream = &line.nodes[0].streams[0];
-        assert_eq!((stream.period, stream.deadline), (99, 50));
+        assert_eq!((stream.period, stream.deadline, stream.jitter), (99, 50, 1));
         let rounded = line
             .rounded
             .iter()
@@ -243,21 +250,25 @@ mod tests {
             "3 slot: 1.1 ms 2",
             "5 period of a.b: 99.9 ms 99",
             "5 deadline of a.b: 50.5 ms 50",
+            "5 jitter of a.b: 0.1 ms 1",
         ];
         assert_eq!(rounded.collect::<Vec<String>>(), expected);
     }
 
     #[test]
     fn whole_ticks_in_other_units_are_not_rounded() {
-        let text = "tick 25 us\nmessage 0.5 ms\nslot 1 tick\nnode a budget 1\nstream b period 1 min deadline 0.05 s";
+        let text = "tick 25 us\nmessage 0.5 ms\nslot 1 tick\nnode a budget 1\nstream b period 1 min deadline 0.05 s\n\
+                    stream c jitter 0.0005 s period 1 min deadline 60 s";
         let line = load(text)
             .unwrap_or_else(|failure| panic!("{failure:?}"))
             .line;
-        let stream = &line.nodes[0].streams[0];
-        assert_eq!(
-            (stream.period, stream.deadline, line.rounded.len()),
-            (2_400_000, 2_000, 0)
-        );
+        let ticks = |stream: usize| {
+            let stream = &line.nodes[0].streams[stream];
+            (stream.period, stream.deadline, stream.jitter)
+        };
+        assert_eq!(ticks(0), (2_400_000, 2_000, 0));
+        assert_eq!(ticks(1), (2_400_000, 2_400_000, 20));
+        assert_eq!(line.rounded.len(), 0);
     }
 
     #[test]

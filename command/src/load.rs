@@ -118,8 +118,10 @@ fn known_name(draft: &Draft, text: &Text, line: &Source) -> Option<Fault> {
 /// The first duration in time of a recorder, for a line without a tick.
 fn first_time(draft: &Draft, text: &Text, line_file: &str) -> Option<Fault> {
     let streams = draft.nodes.iter().flat_map(|node| &node.streams);
-    let durations =
-        streams.flat_map(|stream| [(stream.line, stream.period), (stream.line, stream.deadline)]);
+    let durations = streams.flat_map(|stream| {
+        let durations = [Some(stream.period), Some(stream.deadline), stream.jitter];
+        durations.into_iter().flatten().map(|d| (stream.line, d))
+    });
     let (line, duration) = durations
         .into_iter()
         .find(|(_, duration)| duration.femtoseconds().is_some())?;

@@ -7,7 +7,7 @@ use wistorvan::{
     Tables, LONGEST_SHEET, MAX_NODES, MAX_STREAMS,
 };
 
-use crate::line::{Line, Node};
+use crate::line::{Line, Node, Stream};
 
 /// The longest period, deadline and horizon of the rules.
 pub const LONGEST: u32 = 1_000_000_000;
@@ -20,11 +20,29 @@ pub struct Plan {
     pub nodes: Vec<NodePlan>,
 }
 
-/// A node's budget, and period and deadline of each of its streams.
+/// A node's budget, and its streams.
 #[derive(Clone, PartialEq, Eq, Debug)]
 pub struct NodePlan {
     pub budget: u32,
-    pub streams: Vec<(u32, u32)>,
+    pub streams: Vec<StreamPlan>,
+}
+
+/// The three words of a stream.
+#[derive(Clone, Copy, PartialEq, Eq, Default, Debug)]
+pub struct StreamPlan {
+    pub period: u32,
+    pub deadline: u32,
+    pub jitter: u32,
+}
+
+impl StreamPlan {
+    pub fn of(stream: &Stream) -> StreamPlan {
+        StreamPlan {
+            period: stream.period,
+            deadline: stream.deadline,
+            jitter: stream.jitter,
+        }
+    }
 }
 
 /// A stream's place: node and stream, both from 0.
@@ -43,11 +61,7 @@ impl Plan {
     pub fn of(line: &Line) -> Plan {
         let node = |node: &Node| NodePlan {
             budget: node.budget.unwrap_or(1),
-            streams: node
-                .streams
-                .iter()
-                .map(|stream| (stream.period, stream.deadline))
-                .collect(),
+            streams: node.streams.iter().map(StreamPlan::of).collect(),
         };
         Plan {
             message: line.message.ticks,
@@ -64,16 +78,18 @@ impl Plan {
             .map(|node| node.streams.len() as u32)
             .collect();
         let budgets: Vec<u32> = self.nodes.iter().map(|node| node.budget).collect();
-        let streams = || self.nodes.iter().flat_map(|node| &node.streams);
+        let streams = |word: fn(&StreamPlan) -> u32| -> Vec<u32> {
+            let streams = self.nodes.iter().flat_map(|node| &node.streams);
+            streams.map(word).collect()
+        };
         let tables = Tables {
             message_ticks: self.message,
             slot_ticks: self.slot,
             counts: &counts,
             budgets: &budgets,
-            periods: &streams().map(|(period, _)| *period).collect::<Vec<u32>>(),
-            deadlines: &streams()
-                .map(|(_, deadline)| *deadline)
-                .collect::<Vec<u32>>(),
+            periods: &streams(|stream| stream.period),
+            deadlines: &streams(|stream| stream.deadline),
+            jitters: &streams(|stream| stream.jitter),
         };
         let mut room = [0; LONGEST_SHEET];
         let written = write_sheet(&tables, &mut room)?;
@@ -106,13 +122,12 @@ impl Plan {
             .get_mut(node)
             .and_then(|node| node.streams.get_mut(stream))
         {
-            stream.1 = deadline;
+            stream.deadline = deadline;
         }
         plan
     }
 
-    /// Period and deadline of a stream.
-    pub fn stream(&self, (node, stream): Place) -> Option<(u32, u32)> {
+    pub fn stream(&self, (node, stream): Place) -> Option<StreamPlan> {
         self.nodes.get(node)?.streams.get(stream).copied()
     }
 
@@ -124,11 +139,13 @@ impl Plan {
         self.nodes.iter().enumerate().flat_map(of_node).collect()
     }
 
-    /// The latest delivery after queuing: J × C − 1 + budget × TMS + TPR.
-    pub fn delivery(&self, node: usize, cycles: u32, cycle: u32) -> u64 {
-        let budget = self.nodes.get(node).map_or(0, |node| node.budget);
+    /// The latest delivery after a stream's event, where the stream takes so many
+    /// cycles: jitter + J × C − 1 + budget × TMS + TPR.
+    pub fn delivery(&self, place: Place, cycles: u32, cycle: u32) -> u64 {
+        let budget = self.nodes.get(place.0).map_or(0, |node| node.budget);
         let turn = u64::from(budget) * u64::from(self.message) + u64::from(self.slot);
-        (u64::from(cycles) * u64::from(cycle) + turn).saturating_sub(1)
+        let jitter = u64::from(self.stream(place).unwrap_or_default().jitter);
+        (jitter + u64::from(cycles) * u64::from(cycle) + turn).saturating_sub(1)
     }
 
     /// The streams ranked above one in its node. If every stream is released
@@ -157,23 +174,28 @@ impl Plan {
     /// The latest delivery of a stream, whatever its own deadline is; none if
     /// there is no J within the longest deadline. J depends on C, on the budget
     /// and on the streams ranked above, so the question is asked with these
-    /// alone before it in its node, and with the longest period and deadline.
+    /// alone, with their jitters, before it in its node, and with the longest
+    /// period and deadline and no jitter of its own, which comes to the delivery.
     pub fn needed_delivery(&self, place: Place) -> Result<Option<u64>, Refusal> {
         let above = self.ranked_above(place)?;
         let mut plan = self.clone();
         let Some(node) = plan.nodes.get_mut(place.0) else {
             return Ok(None);
         };
-        let mut streams: Vec<(u32, u32)> = above
+        let mut streams: Vec<StreamPlan> = above
             .iter()
             .filter_map(|stream| node.streams.get(*stream).copied())
             .collect();
-        streams.push((LONGEST, LONGEST));
+        streams.push(StreamPlan {
+            period: LONGEST,
+            deadline: LONGEST,
+            jitter: 0,
+        });
         let last = streams.len() - 1;
         node.streams = streams;
         let sheet = plan.write()?;
         let answer = sheet.one_stream((place.0, last))?;
-        Ok(answer.map(|listed| plan.delivery(place.0, listed.cycles, sheet.cycle)))
+        Ok(answer.map(|listed| self.delivery(place, listed.cycles, sheet.cycle)))
     }
 }
 
@@ -210,13 +232,22 @@ fn late_or<T>(answer: Result<T, Refusal>) -> Result<Option<T>, Refusal> {
 mod tests {
     use super::*;
 
+    /// A node with streams that queue at once.
+    fn node(budget: u32, streams: &[(u32, u32)]) -> NodePlan {
+        let stream = |&(period, deadline): &(u32, u32)| StreamPlan {
+            period,
+            deadline,
+            jitter: 0,
+        };
+        NodePlan {
+            budget,
+            streams: streams.iter().map(stream).collect(),
+        }
+    }
+
     /// The line of the README with its recorder: a message takes 5 ticks, a slot
     /// 1; the second stream of the first node is late.
-    pub fn with_recorder() -> Plan {
-        let node = |budget, streams: &[(u32, u32)]| NodePlan {
-            budget,
-            streams: streams.to_vec(),
-        };
+    fn with_recorder() -> Plan {
         Plan {
             message: 5,
             slot: 1,
@@ -241,10 +272,7 @@ mod tests {
         let equal = Plan {
             message: 1,
             slot: 1,
-            nodes: vec![NodePlan {
-                budget: 1,
-                streams: vec![(50, 50); 3],
-            }],
+            nodes: vec![node(1, &[(50, 50); 3])],
         };
         assert_eq!(equal.ranked_above((0, 2)).unwrap(), [0, 1]);
         assert_eq!(equal.ranked_above((0, 0)).unwrap(), []);
@@ -268,10 +296,26 @@ mod tests {
         let sheet = plan.write().unwrap();
         for place in plan.places() {
             if let Some(listed) = sheet.one_stream(place).unwrap() {
-                let delivery = plan.delivery(place.0, listed.cycles, sheet.cycle);
+                let delivery = plan.delivery(place, listed.cycles, sheet.cycle);
                 assert_eq!(plan.needed_delivery(place), Ok(Some(delivery)));
             }
         }
+    }
+
+    #[test]
+    fn a_delivery_counts_from_the_event() {
+        let mut plan = with_recorder();
+        // Its own jitter comes before its queuing.
+        plan.nodes[0].streams[1].jitter = 7;
+        assert_eq!(plan.needed_delivery((0, 1)), Ok(Some(127)));
+        assert_eq!(plan.with_deadline((0, 1), 127).admitted(), Ok(true));
+        assert_eq!(plan.with_deadline((0, 1), 126).admitted(), Ok(false));
+        // The jitters above it count in J. With one message a turn it is 3, and 4
+        // where two messages of the first stream can come within 149 ticks.
+        let mut plan = plan.with_budget(0, 1);
+        assert_eq!(plan.needed_delivery((0, 1)), Ok(Some(7 + 3 * 50 - 1 + 6)));
+        plan.nodes[0].streams[0].jitter = 51;
+        assert_eq!(plan.needed_delivery((0, 1)), Ok(Some(7 + 4 * 50 - 1 + 6)));
     }
 
     #[test]
@@ -279,10 +323,7 @@ mod tests {
         let plan = Plan {
             message: 5,
             slot: 1,
-            nodes: vec![NodePlan {
-                budget: 1,
-                streams: vec![(5, 5), (100, 100)],
-            }],
+            nodes: vec![node(1, &[(5, 5), (100, 100)])],
         };
         assert_eq!(plan.needed_delivery((0, 1)), Ok(None));
     }

@@ -10,8 +10,21 @@ use crate::statement::{name_fault, Words};
 use crate::text::{quoted, Row, Text};
 use crate::tick::Tick;
 
-/// What a stream has after its name, in either order.
-const STREAM_KEYS: [&str; 2] = ["period", "deadline"];
+/// What a statement has after its name, in any order: a key and its value each.
+struct Keys {
+    names: &'static [&'static str],
+    /// So many of them, from the first, must be there.
+    needed: usize,
+}
+
+const NODE_KEYS: Keys = Keys {
+    names: &["budget"],
+    needed: 1,
+};
+const STREAM_KEYS: Keys = Keys {
+    names: &["period", "deadline", "jitter"],
+    needed: 2,
+};
 
 /// Reads a file's statements; the errors are in line order.
 pub fn read(text: &Text, kind: Kind, needs_budgets: bool) -> (Draft, Vec<Fault>) {
@@ -187,7 +200,7 @@ impl Reader {
         let mut place = words.last_end()..words.last_end();
         let mut budget = None;
         while words.more() {
-            let Some(_) = self.key(words, &["budget"], &[budget.is_some()]) else {
+            let Some(_) = self.key(words, &NODE_KEYS, &[budget.is_some()]) else {
                 continue;
             };
             let number = words.count();
@@ -222,27 +235,30 @@ impl Reader {
             self.missing(&STREAM_KEYS, &values.map(|value| value.is_some()));
         }
         let node = self.draft.nodes.last_mut();
-        if let (Some(node), Some(name), [Some(period), Some(deadline)]) = (node, name, values) {
+        if let (Some(node), Some(name), [Some(period), Some(deadline), jitter]) =
+            (node, name, values)
+        {
             node.streams.push(StreamDraft {
                 line: self.line,
                 name,
                 period,
                 deadline,
+                jitter,
             });
         }
     }
 
-    /// Period and deadline, as far as they are there.
-    fn stream_values(&mut self, words: &mut Words) -> [Option<Duration>; 2] {
-        let mut values = [None, None];
+    /// Period, deadline and jitter, as far as they are there.
+    fn stream_values(&mut self, words: &mut Words) -> [Option<Duration>; 3] {
+        let mut values = [None; 3];
         while words.more() {
             let given = values.map(|value| value.is_some());
             let Some(key) = self.key(words, &STREAM_KEYS, &given) else {
                 continue;
             };
-            let duration = words.duration(&STREAM_KEYS);
+            let duration = words.duration(STREAM_KEYS.names);
             let Some(duration) = self.kept(duration) else {
-                words.skip_to(&STREAM_KEYS);
+                words.skip_to(STREAM_KEYS.names);
                 continue;
             };
             self.written(duration);
@@ -255,9 +271,9 @@ impl Reader {
 
     /// The number of the key that comes next. What is no key, or comes a second
     /// time, is an error, and is passed over.
-    fn key(&mut self, words: &mut Words, keys: &[&str], given: &[bool]) -> Option<usize> {
+    fn key(&mut self, words: &mut Words, keys: &Keys, given: &[bool]) -> Option<usize> {
         let found = words.take()?.text;
-        let key = keys.iter().position(|key| *key == found);
+        let key = keys.names.iter().position(|key| *key == found);
         let again = key.and_then(|key| given.get(key)).copied().unwrap_or(false);
         if key.is_some() && !again {
             return key;
@@ -268,22 +284,22 @@ impl Reader {
                 quoted(found)
             ));
         } else {
-            let left = names_left(keys, given);
-            let expected = if left.is_empty() {
-                "the end of the line".to_string()
-            } else {
-                left
-            };
+            let mut expected = names_left(keys.names, given);
+            if given.iter().take(keys.needed).all(|given| *given) {
+                expected.push("the end of the line".to_string());
+            }
+            let expected = joined(&expected, "or");
             self.fault(format!("found {}, expected {expected}", quoted(found)));
         }
-        words.skip_to(keys);
+        words.skip_to(keys.names);
         None
     }
 
-    fn missing(&mut self, keys: &[&str], given: &[bool]) {
-        let left = names_left(keys, given);
+    fn missing(&mut self, keys: &Keys, given: &[bool]) {
+        let needed = keys.names.get(..keys.needed).unwrap_or_default();
+        let left = names_left(needed, given);
         if !left.is_empty() {
-            let left = left.replace(" or ", " and ");
+            let left = joined(&left, "and");
             self.fault(format!("found the end of the line, expected {left}"));
         }
     }
@@ -315,8 +331,18 @@ impl Reader {
 }
 
 /// The keys that are not yet given, in quotation marks.
-fn names_left(keys: &[&str], given: &[bool]) -> String {
+fn names_left(keys: &[&str], given: &[bool]) -> Vec<String> {
     let left = keys.iter().zip(given).filter(|(_, given)| !**given);
-    let left: Vec<String> = left.map(|(key, _)| format!("\"{key}\"")).collect();
-    left.join(" or ")
+    left.map(|(key, _)| format!("\"{key}\"")).collect()
+}
+
+/// `a, b or c`.
+fn joined(parts: &[String], word: &str) -> String {
+    match parts {
+        [first @ .., before, last] => {
+            let first: String = first.iter().map(|part| format!("{part}, ")).collect();
+            format!("{first}{before} {word} {last}")
+        }
+        _ => parts.concat(),
+    }
 }

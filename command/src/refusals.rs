@@ -6,7 +6,7 @@ use wistorvan::Refusal;
 
 use crate::fault::{Failure, Fault, Refused};
 use crate::line::{Line, Node, Stream};
-use crate::plan::{NodePlan, Plan, Sheet};
+use crate::plan::{NodePlan, Plan, Sheet, StreamPlan};
 use crate::tick::plural;
 
 /// The sheet of a line, or all refusals of it.
@@ -24,7 +24,7 @@ pub fn sheet(line: &Line) -> Result<Sheet, Failure> {
 }
 
 /// A line of one node that has nothing to refuse but what is put into it.
-fn one_node(budget: u32, streams: Vec<(u32, u32)>) -> Plan {
+fn one_node(budget: u32, streams: Vec<StreamPlan>) -> Plan {
     Plan {
         message: 1,
         slot: 1,
@@ -103,7 +103,12 @@ fn refused_slot(line: &Line) -> Option<Refused> {
 
 fn refused_node(node: &Node) -> Option<Refused> {
     let budget = node.budget.unwrap_or(1);
-    let plan = one_node(budget, vec![(1, 1); node.streams.len()]);
+    let stream = StreamPlan {
+        period: 1,
+        deadline: 1,
+        jitter: 0,
+    };
+    let plan = one_node(budget, vec![stream; node.streams.len()]);
     asked(&plan, || {
         let streams = plural(node.streams.len() as u64, "stream");
         let rule = "a node has at most 16 streams and a budget of 1 to 16";
@@ -113,13 +118,21 @@ fn refused_node(node: &Node) -> Option<Refused> {
 }
 
 fn refused_stream(line: &Line, node: &Node, stream: &Stream) -> Option<Refused> {
-    let plan = one_node(1, vec![(stream.period, stream.deadline)]);
-    asked(&plan, || {
-        let period = ticks(line, &node.file, stream.line, "period", stream.period);
-        let deadline = ticks(line, &node.file, stream.line, "deadline", stream.deadline);
-        let rule = "a period is 1 to 1,000,000,000 ticks and a deadline 1 tick to its period";
+    asked(&one_node(1, vec![StreamPlan::of(stream)]), || {
+        let value = |key: &str, value| {
+            format!("{key} {}", ticks(line, &node.file, stream.line, key, value))
+        };
+        let (period, deadline) = (
+            value("period", stream.period),
+            value("deadline", stream.deadline),
+        );
+        let values = match stream.jitter {
+            0 => format!("{period} and {deadline}"),
+            jitter => format!("{period}, {deadline} and {}", value("jitter", jitter)),
+        };
+        let rule = "a period is 1 to 1,000,000,000 ticks, a deadline 1 tick to its period and a jitter less than its period";
         let message = format!(
-            "stream {} of node {}: period {period} and deadline {deadline}: {rule}",
+            "stream {} of node {}: {values}: {rule}",
             stream.name, node.name
         );
         Fault::at(&node.file, stream.line, message)

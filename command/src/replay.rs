@@ -35,8 +35,9 @@ impl Message {
     }
 
     /// Whether it is proved that its stream, or one ranked above it in its node,
-    /// did not keep its period. The claim is about messages whose listed wait
-    /// ends before the longest horizon.
+    /// did not keep its period and jitter: that no events, a period apart and at
+    /// most the jitter before, go with its messages. The claim is about messages
+    /// whose listed wait ends before the longest horizon.
     pub fn breaks_period(&self) -> bool {
         let ends = self
             .listed

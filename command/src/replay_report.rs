@@ -130,7 +130,7 @@ impl ReplayReport<'_> {
                 .collect(),
         };
         if self.replayed.worst().is_some_and(Message::breaks_period) {
-            let so = "Then this stream or one ranked above it in its node was released more often than its period allows.";
+            let so = "Then this stream or one ranked above it in its node was released more often than its period and jitter allow.";
             sentences.push(so.to_string());
         }
         if waiting > 0 {

@@ -9,7 +9,7 @@ use wistorvan::check_sheet;
 use crate::duration::Duration;
 use crate::fault::{Failure, Fault, Refused};
 use crate::load::of_texts;
-use crate::plan::{NodePlan, Plan};
+use crate::plan::{NodePlan, Plan, StreamPlan};
 use crate::report::Report;
 use crate::text::{read_bytes, shown_name, Text, MOST_LINE_BYTES};
 use crate::tick::{Scale, Tick};
@@ -66,22 +66,25 @@ fn cause(sentence: &str) -> String {
 }
 
 /// The tables of a valid sheet, by its layout: three words, then three a node
-/// (place, count, budget), then two a stream (period, deadline).
+/// (place, count, budget), then three a stream (period, deadline, jitter).
 fn tables(words: &[u32]) -> Option<Plan> {
     let (header, rest) = words.split_at_checked(3)?;
     let (contents, bodies) = rest.split_at_checked(3 * usize::try_from(*header.first()?).ok()?)?;
-    let mut streams = bodies
-        .chunks_exact(2)
-        .map(|pair| (pair.first().copied(), pair.get(1).copied()));
+    let stream = |words: &[u32]| {
+        Some(StreamPlan {
+            period: *words.first()?,
+            deadline: *words.get(1)?,
+            jitter: *words.get(2)?,
+        })
+    };
+    let mut streams = bodies.chunks_exact(3).map(stream);
     let mut nodes = Vec::new();
     for row in contents.chunks_exact(3) {
         let (count, budget) = (*row.get(1)?, *row.get(2)?);
         let own = streams.by_ref().take(count as usize);
         nodes.push(NodePlan {
             budget,
-            streams: own
-                .map(|(period, deadline)| Some((period?, deadline?)))
-                .collect::<Option<_>>()?,
+            streams: own.collect::<Option<_>>()?,
         });
     }
     Some(Plan {
@@ -104,11 +107,15 @@ fn line_file(plan: &Plan, scale: &Scale) -> String {
     for (node, number) in plan.nodes.iter().zip(1..) {
         // Writing to a string does not fail.
         let _ = writeln!(text, "node node{number} budget {}", node.budget);
-        for ((period, deadline), number) in node.streams.iter().zip(1..) {
-            let (period, deadline) = (show(*period), show(*deadline));
+        for (stream, number) in node.streams.iter().zip(1..) {
+            let (period, deadline) = (show(stream.period), show(stream.deadline));
+            let jitter = match stream.jitter {
+                0 => String::new(),
+                jitter => format!(" jitter {}", show(jitter)),
+            };
             let _ = writeln!(
                 text,
-                "  stream stream{number} period {period} deadline {deadline}"
+                "  stream stream{number} period {period} deadline {deadline}{jitter}"
             );
         }
     }
@@ -133,10 +140,12 @@ mod tests {
 
     #[test]
     fn tables_are_read_by_the_layout() {
-        let sheet = [2, 5, 1, 9, 2, 1, 13, 1, 2, 40, 40, 60, 60, 30, 30];
+        let sheet = [2, 5, 1, 9, 2, 1, 15, 1, 2, 40, 39, 0, 60, 59, 7, 30, 30, 0];
         let plan = tables(&sheet).unwrap();
         assert_eq!((plan.message, plan.slot), (5, 1));
-        assert_eq!(plan.nodes[0].streams, [(40, 40), (60, 60)]);
+        let streams = plan.nodes[0].streams.iter();
+        let words: Vec<_> = streams.map(|s| (s.period, s.deadline, s.jitter)).collect();
+        assert_eq!(words, [(40, 39, 0), (60, 59, 7)]);
         assert_eq!((plan.nodes[1].budget, plan.nodes[1].streams.len()), (2, 1));
         assert_eq!(tables(&[2, 5]), None);
     }

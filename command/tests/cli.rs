@@ -166,6 +166,10 @@ fn text() {
                     node node2 budget 2\n  stream stream1 period 7.50 ms deadline 7.50 ms\n";
     assert_eq!(text("--tick 0.25ms"), expected);
     assert_eq!(text("--tick=0.250ms"), expected);
+    let jitter = expected.replace("deadline 15.00 ms\n", "deadline 15.00 ms jitter 1.75 ms\n");
+    let words = run("words -", jitter.as_bytes()).stdout;
+    let again = run("text - --tick 0.25ms", &words).stdout;
+    assert_eq!(String::from_utf8(again).unwrap(), jitter);
 }
 
 /// The example of each help text, run by a shell.

@@ -22,7 +22,7 @@ use support::answers::{budgets_help, deadlines_help, rounded_holds, row_holds, s
 use support::case::{order_kept, Case};
 use support::hold::{equal, holds, list, number, optional, text, Held};
 use support::json::Json;
-use support::library::{ticks, Sheet, Ticks};
+use support::library::{ticks, Listed, Sheet, Ticks};
 use support::random::Random;
 use support::releases::{messages_hold, releases};
 use support::run::{run, to_bytes};
@@ -40,6 +40,9 @@ struct Seen {
     in_time_units: usize,
     rounded: usize,
     late_streams: usize,
+    /// Streams with jitter, and those that are late by nothing else.
+    jitters: usize,
+    late_by_jitter: usize,
     no_bound: usize,
     no_budgets: usize,
     budgets_written: usize,
@@ -79,6 +82,11 @@ fn check_holds(case: &Case, ticks: &Ticks, sheet: &Sheet, seen: &mut Seen) -> He
     };
     *counted += 1;
     seen.late_streams += late;
+    seen.jitters += ticks.jitters.iter().filter(|&&jitter| jitter > 0).count();
+    let by_jitter = |(row, jitter): &(&Listed, &u32)| {
+        row.late && row.left.is_some_and(|left| left + i64::from(**jitter) >= 0)
+    };
+    seen.late_by_jitter += streams.iter().zip(&ticks.jitters).filter(by_jitter).count();
     seen.no_bound += streams.iter().filter(|row| row.delivery.is_none()).count();
     seen.rounded += usize::from(!list(&said, "rounded")?.is_empty());
     before_holds(case, &said)?;
@@ -260,6 +268,10 @@ fn generated_lines_get_the_answers_of_the_library() {
     );
     assert!(
         seen.with_recorder > 500 && seen.in_time_units > 4_000 && seen.rounded > 500,
+        "{seen:?}"
+    );
+    assert!(
+        seen.jitters > 5_000 && seen.late_by_jitter > 500,
         "{seen:?}"
     );
     assert!(

@@ -110,19 +110,75 @@ fn what_helps() {
     );
 }
 
+const EVENT: &str =
+    "Waits count from the first tick at or after a message is queued; deliveries and deadlines \
+     from the first at or after its event, which is up to its jitter earlier.";
+
+#[test]
+fn jitter() {
+    // One above lengthens the wait of another: 33 + 7 is its period.
+    let above = SHEET_A.replace("deadline 40 ticks", "deadline 40 ticks jitter 7 ticks");
+    holds(
+        &said(&["check", "-"], &line(&above), 0),
+        "Yes: all 3 streams of standard input are delivered by their deadlines.",
+        &[
+            "node  stream   jitter  longest wait  latest delivery  deadline      left",
+            "a     b       7 ticks      16 ticks         29 ticks  40 ticks  11 ticks",
+            "a     c             -      50 ticks         56 ticks  60 ticks   4 ticks",
+            "d     e             -      16 ticks         27 ticks  30 ticks   3 ticks",
+            EVENT,
+        ],
+    );
+    // Its own makes a stream late, of which the delivery counts from the event.
+    let own = line(&SHEET_A.replace("deadline 30 ticks", "jitter 4 ticks deadline 30 ticks"));
+    holds(
+        &said(&["check", "-"], &own, 1),
+        "No: 1 of 3 streams of standard input is late: d.e.",
+        &[
+            "d     e       4 ticks             -         31 ticks  30 ticks   1 tick  over",
+            "d.e: up to 31 ticks from its event to delivery, 1 tick over its deadline of 30 ticks. That is longer than \
+             its period of 30 ticks: later messages of it can queue behind, so it can take still longer.",
+            "Budget 1 instead of 2 for d: then the whole line is in time.",
+            EVENT,
+        ],
+    );
+    // Without jitter there is no column and no word of it.
+    let without = said(&["check", "-"], &line(SHEET_A), 0);
+    assert!(!without.contains("jitter") && !without.contains("event"));
+    let recorder = "node r budget 1\nstream x period 90 ticks deadline 90 ticks jitter 9 ticks";
+    let file = file("no-jitter.txt", &line(SHEET_A));
+    holds(
+        &said(&["check", &file, "--with", "-"], recorder, 1),
+        &format!("No: with standard input 2 of 4 streams of {file} are late: a.c, d.e."),
+        &["r     x       90 ticks  9 ticks            -    22 ticks                -        37 ticks         -  53 ticks"],
+    );
+}
+
+#[test]
+fn a_jitter_of_nothing_is_none() {
+    let zero = SHEET_A.replace("deadline 40 ticks", "deadline 40 ticks jitter 0 ticks");
+    for args in [["check", "-"], ["budgets", "-"]] {
+        assert_eq!(said(&args, &line(&zero), 0), said(&args, &line(SHEET_A), 0));
+    }
+}
+
 #[test]
 fn rounding_is_told() {
     let line = "tick 1 ms\nmessage 0.5 ms\nslot 1 ms\nnode a budget 1\nstream b period 1 s deadline 50.5 ms";
-    holds(
-        &said(&["check", "-"], line, 0),
-        "Yes: the only stream of standard input is delivered by its deadline.",
-        &[
-            "Full cycle 2 ms (2 ticks of 1 ms).",
-            "Rounded to whole ticks: standard input, line 2: message, from 0.5 ms to 1 ms.",
-            "Rounded to whole ticks: standard input, line 5: deadline of a.b, from 50.5 ms to 50 ms.",
-            "Times count from the first tick at or after a message is queued.",
-        ],
-    );
+    let notes = [
+        "Full cycle 2 ms (2 ticks of 1 ms).",
+        "Rounded to whole ticks: standard input, line 2: message, from 0.5 ms to 1 ms.",
+        "Rounded to whole ticks: standard input, line 5: deadline of a.b, from 50.5 ms to 50 ms.",
+    ];
+    let yes = "Yes: the only stream of standard input is delivered by its deadline.";
+    let queued = "Times count from the first tick at or after a message is queued.";
+    holds(&said(&["check", "-"], line, 0), yes, &notes);
+    holds(&said(&["check", "-"], line, 0), yes, &[queued]);
+    let jitter = format!("{line} jitter 0.01 ms");
+    let rounded =
+        "Rounded to whole ticks: standard input, line 5: jitter of a.b, from 0.01 ms to 1 ms.";
+    holds(&said(&["check", "-"], &jitter, 0), yes, &notes);
+    holds(&said(&["check", "-"], &jitter, 0), yes, &[rounded, EVENT]);
 }
 
 #[test]
@@ -173,7 +229,7 @@ fn waits_in_a_replay() {
         &["0 ticks  a.c     12 ticks  12 ticks     33 ticks  21 ticks", "25 turns started before 40 ticks; the next would start at 40 ticks."],
     );
     let burst = "0 a.b\n0 a.b\n0 a.b\n0 a.b\n0 a.c\n";
-    let so = "Then this stream or one ranked above it in its node was released more often than its period allows.";
+    let so = "Then this stream or one ranked above it in its node was released more often than its period and jitter allow.";
     let row = "0 ticks  a.b     21 ticks  21 ticks     16 ticks   5 ticks over";
     holds(
         &replay(burst, &[], 1),

@@ -1,8 +1,8 @@
 //! The proved library against variants of the second program that make the
 //! errors listed in document 01, go by a wrong rank, write a sheet wrongly,
 //! start a search at a wrong place, judge by a wrong late test, jump wrongly in
-//! the search for J, or search wrongly for budgets. Each of them has to differ
-//! somewhere.
+//! the search for J, search wrongly for budgets, or use the jitter wrongly. Each
+//! of them has to differ somewhere.
 
 use peer::broken;
 use peer::generate::{budgets_case, case, tables_case, BudgetsCase, Case, TablesCase};
@@ -21,7 +21,7 @@ enum Entry {
     Find(Find),
 }
 
-const VARIANTS: [(&str, Entry); 39] = [
+const VARIANTS: [(&str, Entry); 53] = [
     (
         "1, releases counted by ceiling",
         Entry::Admit(broken::admit_by_ceiling),
@@ -177,6 +177,62 @@ const VARIANTS: [(&str, Entry); 39] = [
     (
         "39, refusal 11 before refusal 6",
         Entry::Find(broken::find_before_the_room),
+    ),
+    (
+        "40, a jitter as long as the period",
+        Entry::Admit(broken::admit_with_jitter_to_the_period),
+    ),
+    (
+        "41, refusal 5 for a jitter from the deadline on",
+        Entry::Admit(broken::admit_with_jitter_below_the_deadline),
+    ),
+    (
+        "42, releases above counted with the stream's own jitter",
+        Entry::Admit(broken::admit_with_own_jitter_above),
+    ),
+    (
+        "43, releases above counted without jitter",
+        Entry::Admit(broken::admit_without_jitter_above),
+    ),
+    (
+        "44, a late test without the own jitter",
+        Entry::Admit(broken::admit_late_without_jitter),
+    ),
+    (
+        "45, a late test with the own jitter twice",
+        Entry::Admit(broken::admit_with_jitter_twice_late),
+    ),
+    (
+        "46, waits that start at the event",
+        Entry::Admit(broken::admit_waiting_from_the_event),
+    ),
+    (
+        "47, waits ranked by deadline less jitter",
+        Entry::Admit(broken::admit_ranked_by_slack),
+    ),
+    (
+        "48, replay ranked by deadline less jitter",
+        Entry::Replay(broken::replay_ranked_by_slack),
+    ),
+    (
+        "49, every jitter written as 0",
+        Entry::Write(broken::write_no_jitters),
+    ),
+    (
+        "50, any number of jitters",
+        Entry::Write(broken::write_any_jitters),
+    ),
+    (
+        "51, a jitter as long as the period written",
+        Entry::Write(broken::write_jitter_to_the_period),
+    ),
+    (
+        "52, budgets judged without jitter",
+        Entry::Find(broken::find_without_jitter),
+    ),
+    (
+        "53, a jump that takes jitters for whole releases",
+        Entry::Admit(broken::admit_jumping_over_jitters),
     ),
 ];
 

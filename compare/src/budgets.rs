@@ -32,9 +32,9 @@ pub fn compare_budgets(tally: &mut Tally, name: &str, case: &BudgetsCase) {
     match other.answer.0 {
         0 => {
             let names = row_names(&case.sheet, &other.left[..ROW]);
-            tally.searched("find budgets", 0, names);
+            tally.named("find budgets", 0, names);
         }
-        11 => tally.searched("find budgets", 11, no_row_names(&case.sheet)),
+        11 => tally.named("find budgets", 11, no_row_names(&case.sheet)),
         _ => {}
     }
     if (mine.answer.0, other.answer.0) == (0, 0) {
@@ -50,7 +50,7 @@ fn compare_row(tally: &mut Tally, name: &str, case: &BudgetsCase, found: &Outcom
     for (node, &budget) in found.left.iter().take(nodes).enumerate() {
         sheet[3 + 3 * node + 2] = budget;
     }
-    let streams = (sheet.len() - 3 - 3 * nodes) / 2;
+    let streams = (sheet.len() - 3 - 3 * nodes) / 3;
     let room = [0; 256];
     let admitted = proved(&room, |room| wistorvan::raw::admit(&sheet, room));
     let waits = second(&room, |room| peer::admit(&sheet, room)).left;

@@ -16,10 +16,13 @@ use std::process::ExitCode;
 use budgets::compare_budgets;
 use peer::generate::{budgets_case, case, tables_case, BudgetsCase, Case, TablesCase};
 use peer::generate::{named, named_budgets, named_tables};
-use peer::stats::{found_names, late_name};
+use peer::read_tables;
+use peer::stats::{
+    event_names, found_names, jitter_names, kinds_of_jitters, late_name, sheet_fault,
+};
 use programs::{Programs, CHANGES};
 use step::{compare_step, compare_steps};
-use tally::{searches, Outcome, Tally, EXPECTED, FAR};
+use tally::{jitters, searches, Outcome, Tally, EXPECTED, FAR};
 use writer::{compare_tables, compare_written_again};
 
 const USAGE: &str =
@@ -37,8 +40,9 @@ const USAGE: &str =
 const PROGRAMS_EVERY: u64 = 100;
 const FAR_PROGRAMS: u64 = 400;
 
-/// So many generated cases must have all far numbers, all long searches and all
-/// kinds of rows among them; fewer may leave them to the named cases.
+/// So many generated cases must have all far numbers, all long searches, all
+/// kinds of rows and all kinds of jitters among them; fewer may leave them to
+/// the named cases.
 const FAR_CASES: u64 = 5_000;
 
 /// Runs an entry of the second program on a copy of the room.
@@ -79,6 +83,11 @@ fn compare_sheet(tally: &mut Tally, name: &str, case: &Case) {
     let mine = proved(&[], |_| wistorvan::raw::check_sheet(&case.sheet));
     let other = second(&[], |_| peer::check_sheet(&case.sheet));
     tally.compare("sheet", name, case, &mine, &other);
+    match (other.answer, read_tables(&case.sheet)) {
+        (_, Ok(tables)) => tally.named("sheet", 0, kinds_of_jitters(&tables)),
+        ((5, node, stream), _) => tally.named("sheet", 5, [sheet_fault(&case.sheet, node, stream)]),
+        _ => {}
+    }
 }
 
 fn compare_one_stream(tally: &mut Tally, name: &str, case: &Case) {
@@ -89,11 +98,13 @@ fn compare_one_stream(tally: &mut Tally, name: &str, case: &Case) {
     match other.answer {
         (0, wait, cycles) => {
             tally.reached("one stream", &[far::wait(&[wait])]);
-            tally.searched("one stream", 0, found_names(cycles.into()));
+            tally.named("one stream", 0, found_names(cycles.into()));
         }
-        (7, ..) => tally.searched("one stream", 7, late_name(sheet, node, stream)),
+        (7, ..) => tally.named("one stream", 7, late_name(sheet, node, stream)),
         _ => {}
     }
+    let names = jitter_names(sheet, node, stream);
+    tally.named("one stream", other.answer.0, names);
 }
 
 /// Answers whether a wait is far.
@@ -105,12 +116,12 @@ fn compare_admit(tally: &mut Tally, name: &str, case: &Case) -> bool {
         (0, streams, cycle) => {
             let waits = &other.left[..streams as usize];
             if let Some(longest) = waits.iter().map(|wait| (wait + 1) / cycle).max() {
-                tally.searched("admit", 0, found_names(longest.into()));
+                tally.named("admit", 0, found_names(longest.into()));
             }
             tally.reached("admit", &[far::wait(waits)])
         }
         (7, node, stream) => {
-            tally.searched("admit", 7, late_name(&case.sheet, node, stream));
+            tally.named("admit", 7, late_name(&case.sheet, node, stream));
             false
         }
         _ => false,
@@ -129,6 +140,7 @@ fn compare_replay(tally: &mut Tally, name: &str, case: &Case) -> (Outcome, bool)
     tally.compare("replay", name, case, &whole, &other);
     let far = match other.answer {
         (0, turns, _) => {
+            tally.named("replay", 0, event_names(case));
             let begins = &other.left[..log.len() / 2];
             tally.reached("replay", &[far::begin(begins), far::turns(turns)])
         }
@@ -160,6 +172,7 @@ fn run_all(seed: u64, count: u64) -> io::Result<Tally> {
     if count >= FAR_CASES {
         tally.expect(&FAR);
         tally.expect(&searches());
+        tally.expect(&jitters());
     }
     for (index, (name, case)) in named().iter().enumerate() {
         let name = format!("{name}: `compare {seed} {index} named`");
@@ -175,6 +188,7 @@ fn run_all(seed: u64, count: u64) -> io::Result<Tally> {
     }
     tally.expect(&FAR);
     tally.expect(&searches());
+    tally.expect(&jitters());
     tally.expect(&EXPECTED);
     Ok(tally)
 }

@@ -3,12 +3,13 @@
 use std::collections::{BTreeMap, BTreeSet};
 use std::fmt::Debug;
 
+use peer::stats::{EVENT_NAMES, IN_TIME_NAMES, JITTER_FAULTS, JITTER_NAMES, TOO_LATE_NAMES};
 use peer::stats::{FOUND_NAMES, LATE_NAMES, NO_ROW_NAMES, ROW_NAMES};
 
 use crate::far;
 
-/// An entry, the number it answered, and the kind of place, what was far, or
-/// what the search for J or for budgets came to.
+/// An entry, the number it answered, and the kind of place, what was far, what
+/// the search for J or for budgets came to, or what a jitter was or did.
 pub type Kind = (&'static str, u32, &'static str);
 
 /// The far numbers that a whole run must have met.
@@ -36,6 +37,25 @@ pub fn searches() -> Vec<Kind> {
     let no_rows = NO_ROW_NAMES.map(|name| ("find budgets", 11, name));
     let budgets = rows.into_iter().chain(no_rows);
     of("one stream").chain(of("admit")).chain(budgets).collect()
+}
+
+/// The kinds of jitters that a whole run must have met: in sheets and tables,
+/// right and wrong, in answers that they change, and in logs that they allow.
+pub fn jitters() -> Vec<Kind> {
+    let of = |entry: &'static str, number: u32, names: &[&'static str]| {
+        let kinds = names.iter().map(|&name| (entry, number, name));
+        kinds.collect::<Vec<Kind>>()
+    };
+    [
+        of("sheet", 0, &JITTER_NAMES),
+        of("sheet", 5, &JITTER_FAULTS),
+        of("write", 0, &JITTER_NAMES),
+        of("write", 5, &JITTER_FAULTS),
+        of("one stream", 0, &IN_TIME_NAMES),
+        of("one stream", 7, &TOO_LATE_NAMES),
+        of("replay", 0, &EVENT_NAMES),
+    ]
+    .concat()
 }
 
 /// The answers that a whole run must have met.
@@ -192,8 +212,9 @@ impl Tally {
         far.iter().any(Option::is_some)
     }
 
-    /// Counts what the search behind an answer with this number came to.
-    pub fn searched(
+    /// Counts what is known by name of an answer with this number: what the
+    /// search behind it came to, or what a jitter was or did.
+    pub fn named(
         &mut self,
         entry: &'static str,
         number: u32,

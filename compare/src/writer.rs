@@ -2,6 +2,7 @@
 //! it writes is read back by the second program.
 
 use peer::generate::{Case, TablesCase};
+use peer::stats::{kinds_of_jitters, tables_fault};
 use peer::{read_tables, Tables};
 
 use crate::tally::{Outcome, Tally};
@@ -18,6 +19,7 @@ pub fn written_by_proved(tables: &Tables, room: &[u32]) -> Outcome {
         budgets: &tables.budgets,
         periods: &tables.periods,
         deadlines: &tables.deadlines,
+        jitters: &tables.jitters,
     };
     proved(room, |room| wistorvan::raw::write_sheet(&lent, room))
 }
@@ -33,6 +35,11 @@ pub fn compare_tables(tally: &mut Tally, name: &str, case: &TablesCase) {
     let mine = written_by_proved(tables, room);
     let other = written_by_second(peer::write_sheet, tables, room);
     tally.compare("write", name, case, &mine, &other);
+    match other.answer {
+        (0, ..) => tally.named("write", 0, kinds_of_jitters(tables)),
+        (5, node, stream) => tally.named("write", 5, [tables_fault(tables, node, stream)]),
+        _ => {}
+    }
     if let (0, words, _) = mine.answer {
         let sheet = mine.left.get(..words as usize).unwrap_or_default();
         compare_read_back(tally, name, case, sheet);

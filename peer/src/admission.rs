@@ -1,7 +1,7 @@
 //! The listed wait of a stream, the late test, and the two entries that answer
 //! them.
 
-use crate::sheet::{Bus, MOST_STREAMS, MOST_STREAMS_A_NODE};
+use crate::sheet::{Bus, Stream, MOST_STREAMS, MOST_STREAMS_A_NODE};
 use crate::{refusal, success, Answer};
 
 #[derive(Clone, Copy)]
@@ -11,13 +11,38 @@ pub(crate) struct Listed {
     pub cycles: u64,
 }
 
+/// What counts of a stream of higher priority.
+#[derive(Clone, Copy)]
+pub(crate) struct Above {
+    pub period: u64,
+    pub jitter: u64,
+}
+
+impl Above {
+    /// The most releases that are queued no more than so many ticks apart from
+    /// one another: their events are no more than that and the jitter apart. The
+    /// 1 counts the first of them.
+    pub fn releases(&self, window: u64) -> u64 {
+        1 + (window + self.jitter) / self.period
+    }
+}
+
+impl From<&Stream> for Above {
+    fn from(stream: &Stream) -> Above {
+        Above {
+            period: stream.period.into(),
+            jitter: stream.jitter.into(),
+        }
+    }
+}
+
 /// How far one stream of higher priority has come in the growing window:
 /// its whole periods are in the sum, the rest is kept here. This makes a try
 /// of J an addition a stream instead of a division.
 #[derive(Clone, Copy, Default)]
 struct Progress {
     period: u64,
-    /// Window length modulo the period.
+    /// Window length and jitter together, modulo the period.
     rest: u64,
     /// Full cycle modulo the period.
     rest_a_cycle: u64,
@@ -33,25 +58,25 @@ struct Interference {
 }
 
 impl Interference {
-    /// For the first window, C − 1, given the periods of those streams.
-    fn first(above: impl Iterator<Item = u64>, cycle: u64) -> Interference {
+    /// For the first window, C − 1.
+    fn first(above: impl Iterator<Item = Above>, cycle: u64) -> Interference {
         let mut sum = Interference {
             releases: 0,
             whole_a_cycle: 0,
             streams: [Progress::default(); MOST_STREAMS_A_NODE],
             count: 0,
         };
-        above.for_each(|period| sum.add(period, cycle));
+        above.for_each(|stream| sum.add(stream, cycle));
         sum
     }
 
-    fn add(&mut self, period: u64, cycle: u64) {
-        // The 1 counts a release at the very first tick of the window.
-        self.releases += 1 + (cycle - 1) / period;
+    fn add(&mut self, stream: Above, cycle: u64) {
+        let Above { period, jitter } = stream;
+        self.releases += stream.releases(cycle - 1);
         self.whole_a_cycle += cycle / period;
         self.streams[self.count] = Progress {
             period,
-            rest: (cycle - 1) % period,
+            rest: (cycle - 1 + jitter) % period,
             rest_a_cycle: cycle % period,
         };
         self.count += 1;
@@ -70,11 +95,14 @@ impl Interference {
     }
 }
 
-/// Ticks from a release to its delivery at the latest, for a J from 1 up. A
-/// message is handed up when the protocol slot of its turn ends, so its own
-/// place in the turn plays no part, and the turn is taken as full.
+/// Ticks from an event to the delivery of its message at the latest, for a J
+/// from 1 up: the message is queued after the jitter at the latest, and the
+/// listed wait starts there. It is handed up when the protocol slot of its turn
+/// ends, so its own place in the turn plays no part, and the turn is taken as
+/// full.
 pub(crate) fn delivery(bus: &Bus, stream: usize, cycles: u64) -> u64 {
-    cycles * bus.cycle() - 1 + bus.longest_turn(bus.node_of(stream))
+    let jitter = u64::from(bus.streams()[stream].jitter);
+    jitter + cycles * bus.cycle() - 1 + bus.longest_turn(bus.node_of(stream))
 }
 
 /// The late test: the last J whose delivery is not above the deadline, 0 if
@@ -89,10 +117,10 @@ pub(crate) fn last_try(bus: &Bus, stream: usize) -> u64 {
     }
 }
 
-/// Tries J from 1 to `last`, one by one, for a stream below those with these
-/// periods. Answers the least that serves, and x of document 01.
+/// Tries J from 1 to `last`, one by one, for a stream below these. Answers the
+/// least that serves, and x of document 01.
 pub(crate) fn search(
-    above: impl Iterator<Item = u64>,
+    above: impl Iterator<Item = Above>,
     cycle: u64,
     budget: u64,
     last: u64,
@@ -108,13 +136,13 @@ pub(crate) fn search(
     None
 }
 
-/// The least J up to `last` and its wait; the deadline plays no part here.
+/// The least J up to `last` and its wait; the stream's own deadline and jitter
+/// play no part here, as the wait starts when the message is queued.
 pub(crate) fn least_cycles(bus: &Bus, stream: usize, last: u64) -> Option<Listed> {
-    let node = &bus.nodes()[bus.node_of(stream)];
-    let above = (node.first..node.first + node.count)
-        .filter(|&other| bus.priority(other) < bus.priority(stream))
-        .map(|other| u64::from(bus.streams()[other].period));
-    let (cycles, ahead) = search(above, bus.cycle(), node.budget as u64, last)?;
+    let budget = bus.nodes()[bus.node_of(stream)].budget as u64;
+    let above = bus.above(stream);
+    let above = above.map(|other| Above::from(&bus.streams()[other]));
+    let (cycles, ahead) = search(above, bus.cycle(), budget, last)?;
     let wait = cycles * bus.cycle() - 1 + ahead * bus.message_ticks;
     Some(Listed { wait, cycles })
 }
@@ -141,7 +169,11 @@ pub fn one_stream(sheet: &[u32], node: u32, stream: u32) -> Answer {
 
 /// The bus of a sheet that has room enough for its waits.
 pub(crate) fn check(sheet: &[u32], room: &[u32]) -> Result<Bus, Answer> {
-    let bus = Bus::read(sheet)?;
+    check_room(Bus::read(sheet)?, room)
+}
+
+/// The bus again, if there is room enough for its waits.
+pub(crate) fn check_room(bus: Bus, room: &[u32]) -> Result<Bus, Answer> {
     match room.len() < bus.streams().len() {
         true => Err(refusal(6, 0, 0)),
         false => Ok(bus),

@@ -1,18 +1,20 @@
 //! The five errors that document 01 has seen in fitters' sheets, three wrong
 //! ranks, eight wrong writers, two wrong starting places, four wrong late tests,
-//! four wrong jumps and ten wrong searches for budgets, each made on purpose, so
-//! that a comparison can show that it catches them. All else is as in the good
-//! program, but for the search that the wrong jumps are made in.
+//! five wrong jumps, ten wrong searches for budgets and thirteen wrong uses of
+//! the jitter, each made on purpose, so that a comparison can show that it
+//! catches them. All else is as in the good program, but for the search that the
+//! wrong jumps are made in.
 
 mod budgets;
 mod delivery;
+mod jitter;
 mod jumps;
 mod start;
 mod writer;
 
-use crate::admission::{last_try, late, listed, write_waits};
+use crate::admission::{last_try, late, listed, write_waits, Above};
 use crate::replay::{write_begins, Operation};
-use crate::sheet::{by_deadline, Bus, Rank, MOST_STREAMS_A_NODE};
+use crate::sheet::{levels, Bus, Rank, Stream, MOST_STREAMS_A_NODE};
 use crate::{admission, replay, success, Answer, NOT_BEGUN};
 
 pub use budgets::{
@@ -24,9 +26,16 @@ pub use delivery::{
     admit_delivering_at_own_end, admit_delivering_before_the_slot,
     admit_delivering_behind_own_place, admit_late_at_the_deadline,
 };
+pub use jitter::{
+    admit_late_without_jitter, admit_ranked_by_slack, admit_waiting_from_the_event,
+    admit_with_jitter_below_the_deadline, admit_with_jitter_to_the_period,
+    admit_with_jitter_twice_late, admit_with_own_jitter_above, admit_without_jitter_above,
+    find_without_jitter, replay_ranked_by_slack, write_any_jitters, write_jitter_to_the_period,
+    write_no_jitters,
+};
 pub use jumps::{
-    admit_counting_fast_twice, admit_jumping_too_far, admit_rounding_rates_up,
-    admit_with_every_place_taken, one_stream_jumping,
+    admit_counting_fast_twice, admit_jumping_over_jitters, admit_jumping_too_far,
+    admit_rounding_rates_up, admit_with_every_place_taken, one_stream_jumping,
 };
 pub use start::{replay_starting_late, step_after_last_begun};
 pub use writer::{
@@ -39,7 +48,9 @@ pub const MOST_TURNS: u64 = 100_000;
 
 /// Error 1: counts releases by ceiling, without the one at the last tick.
 pub fn admit_by_ceiling(sheet: &[u32], room: &mut [u32]) -> Answer {
-    admit_counting(sheet, room, |window, period| window.div_ceil(period))
+    admit_counting(sheet, room, |window, stream| {
+        (window + stream.jitter).div_ceil(stream.period)
+    })
 }
 
 /// Error 2: a message released during a turn joins it.
@@ -140,16 +151,17 @@ pub fn replay_tied_by_higher_number(
 
 // The wrong ranks: the right one without a level, or with one turned round.
 
-fn by_period(_: u64, period: u64, number: u64) -> u64 {
-    by_deadline(0, period, number)
+fn by_period(stream: &Stream, number: u64) -> u64 {
+    levels(0, stream.period, number)
 }
 
-fn without_period(deadline: u64, _: u64, number: u64) -> u64 {
-    by_deadline(deadline, 0, number)
+fn without_period(stream: &Stream, number: u64) -> u64 {
+    levels(stream.deadline, 0, number)
 }
 
-fn higher_number_first(deadline: u64, period: u64, number: u64) -> u64 {
-    by_deadline(deadline, period, MOST_STREAMS_A_NODE as u64 - 1 - number)
+fn higher_number_first(stream: &Stream, number: u64) -> u64 {
+    let number = MOST_STREAMS_A_NODE as u64 - 1 - number;
+    levels(stream.deadline, stream.period, number)
 }
 
 fn admit_ranked(sheet: &[u32], room: &mut [u32], rank: Rank) -> Answer {
@@ -172,8 +184,11 @@ fn replay_ranked(sheet: &[u32], log: &[u32], horizon: u32, room: &mut [u32], ran
     }
 }
 
-/// Admits with another count of releases, given a window and a period.
-fn admit_counting(sheet: &[u32], room: &mut [u32], count: fn(u64, u64) -> u64) -> Answer {
+/// Counts the releases of a stream above in a window.
+type Count = fn(u64, &Above) -> u64;
+
+/// Admits with another count of releases.
+fn admit_counting(sheet: &[u32], room: &mut [u32], count: Count) -> Answer {
     admit_with(sheet, room, |bus, stream| wait_counting(bus, stream, count))
 }
 
@@ -198,14 +213,12 @@ fn admit_with(
     success(waits.len() as u64, bus.cycle())
 }
 
-fn wait_counting(bus: &Bus, stream: usize, count: fn(u64, u64) -> u64) -> Option<u64> {
+fn wait_counting(bus: &Bus, stream: usize, count: Count) -> Option<u64> {
     let node = &bus.nodes()[bus.node_of(stream)];
     let (cycle, budget) = (bus.cycle(), node.budget as u64);
-    let above: Vec<u64> = (node.first..node.first + node.count)
-        .filter(|&other| bus.priority(other) < bus.priority(stream))
-        .map(|other| u64::from(bus.streams()[other].period))
-        .collect();
-    let releases = |window: u64| -> u64 { above.iter().map(|&p| count(window, p)).sum() };
+    let above = bus.above(stream);
+    let above: Vec<Above> = above.map(|other| (&bus.streams()[other]).into()).collect();
+    let releases = |window: u64| -> u64 { above.iter().map(|it| count(window, it)).sum() };
     // The late test asks for J alone, however the releases are counted. No
     // count falls as the window grows, so that x is never negative.
     let cycles = (1..=last_try(bus, stream)).find(|j| releases(j * cycle - 1) < j * budget)?;

@@ -1,11 +1,11 @@
 //! The independent second program: written from document 01 and, for the rank,
-//! the writer, the late test and the budgets, requests One, Two, Four and Five
-//! of document 02 alone, so that the proved program can be compared with it. It
-//! shares no code with that program, and keeps other accounts: running
-//! remainders in the search for J, one queue a stream in the replay, a sheet put
-//! together apart from the room in the writer, budgets raised node by node. J is
-//! tried one by one from 1 up, as far as the deadline allows: a search that
-//! leaves some out is measured against that.
+//! the writer, the late test, the budgets and the jitter, requests One, Two,
+//! Four, Five and Six of document 02 alone, so that the proved program can be
+//! compared with it. It shares no code with that program, and keeps other
+//! accounts: running remainders in the search for J, one queue a stream in the
+//! replay, a sheet put together apart from the room in the writer, budgets
+//! raised node by node. J is tried one by one from 1 up, as far as the deadline
+//! allows: a search that leaves some out is measured against that.
 //!
 //! Every entry is total: whatever is handed in gets an answer, and a refusal
 //! changes no lent word.
@@ -13,6 +13,7 @@
 mod admission;
 pub mod broken;
 mod budgets;
+pub mod events;
 pub mod generate;
 mod log;
 mod replay;

@@ -13,24 +13,37 @@ pub(crate) const LAST_TICK: u32 = 1_000_000_000;
 
 pub(crate) const HEADER_WORDS: usize = 3;
 pub(crate) const ROW_WORDS: usize = 3;
-pub(crate) const STREAM_WORDS: usize = 2;
+pub(crate) const STREAM_WORDS: usize = 3;
 
 #[derive(Clone, Copy, Default)]
 pub(crate) struct Stream {
     pub period: u32,
     pub deadline: u32,
+    pub jitter: u32,
     priority: u64,
 }
 
-/// Makes the priority of a stream out of its deadline, its period and its
-/// number within the node, from 0.
-pub(crate) type Rank = fn(u64, u64, u64) -> u64;
+/// Makes the priority of a stream, given its number within the node, from 0.
+pub(crate) type Rank = fn(&Stream, u64) -> u64;
 
-/// Shorter deadline first, then shorter period, then lower number, as one
-/// number that is quick to compare: deadline and period are below 2^30 and the
-/// number is below 2^4, so the three fit side by side.
-pub(crate) fn by_deadline(deadline: u64, period: u64, number: u64) -> u64 {
-    deadline << 34 | period << 4 | number
+/// Shorter deadline first, then shorter period, then lower number. The jitter
+/// plays no part.
+pub(crate) fn by_deadline(stream: &Stream, number: u64) -> u64 {
+    levels(stream.deadline, stream.period, number)
+}
+
+/// The levels of a rank as one number that is quick to compare: the first two
+/// are below 2^30 and the number is below 2^4, so the three fit side by side.
+pub(crate) fn levels(deadline: u32, period: u32, number: u64) -> u64 {
+    u64::from(deadline) << 34 | u64::from(period) << 4 | number
+}
+
+/// Whether the jitter of a stream is right, given that the rest is.
+pub(crate) type JitterRule = fn(&Stream) -> bool;
+
+/// Less than the period, whatever the deadline.
+pub(crate) fn below_the_period(stream: &Stream) -> bool {
+    stream.jitter < stream.period
 }
 
 #[derive(Clone, Copy, Default)]
@@ -42,6 +55,7 @@ pub(crate) struct Node {
 }
 
 /// A valid sheet, read. Indices are from 0; answers count from 1.
+#[derive(Clone)]
 pub(crate) struct Bus {
     pub message_ticks: u64,
     pub slot_ticks: u64,
@@ -49,8 +63,8 @@ pub(crate) struct Bus {
     stream_count: usize,
     nodes: [Node; MOST_NODES],
     streams: [Stream; MOST_STREAMS],
-    /// Index of the node of each stream; apart, which keeps a stream at 16
-    /// bytes and the whole quick to clear and to hand over.
+    /// Index of the node of each stream; apart, which keeps a stream short and
+    /// the whole quick to clear and to hand over.
     node_of: [u8; MOST_STREAMS],
 }
 
@@ -64,12 +78,18 @@ pub fn check_sheet(sheet: &[u32]) -> Answer {
 
 impl Bus {
     pub fn read(sheet: &[u32]) -> Result<Bus, Answer> {
+        Bus::read_with(sheet, below_the_period)
+    }
+
+    /// Only a program that is wrong on purpose has another rule for jitters.
+    #[inline]
+    pub fn read_with(sheet: &[u32], jitter_right: JitterRule) -> Result<Bus, Answer> {
         let mut bus = Bus::read_header(sheet)?;
         let end = bus.read_contents(sheet)?;
         if sheet.len() != end {
             return Err(refusal(4, 0, 0));
         }
-        bus.read_bodies(sheet)?;
+        bus.read_bodies(sheet, jitter_right)?;
         bus.rank_by(by_deadline);
         Ok(bus)
     }
@@ -121,25 +141,27 @@ impl Bus {
         Ok(end)
     }
 
-    fn read_bodies(&mut self, sheet: &[u32]) -> Result<(), Answer> {
-        // The bodies have no gaps, so they are one run of pairs.
+    fn read_bodies(&mut self, sheet: &[u32], jitter_right: JitterRule) -> Result<(), Answer> {
+        // The bodies have no gaps, so they are one run of streams.
         let bodies = &sheet[HEADER_WORDS + ROW_WORDS * self.node_count..];
         for node in 0..self.node_count {
             let Node { first, count, .. } = self.nodes[node];
             for number in 0..count {
-                let stream = first + number;
-                let period = bodies[STREAM_WORDS * stream];
-                let deadline = bodies[STREAM_WORDS * stream + 1];
-                let period_right = (1..=LAST_TICK).contains(&period);
-                if !period_right || deadline < 1 || deadline > period {
-                    return Err(refusal(5, node as u32 + 1, number as u32 + 1));
-                }
-                self.streams[stream] = Stream {
-                    period,
-                    deadline,
+                let index = first + number;
+                let words = &bodies[STREAM_WORDS * index..][..STREAM_WORDS];
+                let stream = Stream {
+                    period: words[0],
+                    deadline: words[1],
+                    jitter: words[2],
                     priority: 0,
                 };
-                self.node_of[stream] = node as u8;
+                let period_right = (1..=LAST_TICK).contains(&stream.period);
+                let deadline_right = stream.deadline >= 1 && stream.deadline <= stream.period;
+                if !(period_right && deadline_right && jitter_right(&stream)) {
+                    return Err(refusal(5, node as u32 + 1, number as u32 + 1));
+                }
+                self.streams[index] = stream;
+                self.node_of[index] = node as u8;
             }
         }
         Ok(())
@@ -152,8 +174,7 @@ impl Bus {
         for node in &self.nodes[..self.node_count] {
             let streams = &mut self.streams[node.first..][..node.count];
             for (number, stream) in (0..).zip(streams) {
-                let (deadline, period) = (stream.deadline.into(), stream.period.into());
-                stream.priority = rank(deadline, period, number);
+                stream.priority = rank(stream, number);
             }
         }
     }
@@ -161,6 +182,11 @@ impl Bus {
     /// Puts another budget in the place of the sheet's own.
     pub fn set_budget(&mut self, node: usize, budget: usize) {
         self.nodes[node].budget = budget;
+    }
+
+    /// Puts another jitter in the place of the sheet's own.
+    pub fn set_jitter(&mut self, stream: usize, jitter: u32) {
+        self.streams[stream].jitter = jitter;
     }
 
     pub fn nodes(&self) -> &[Node] {
@@ -191,6 +217,13 @@ impl Bus {
     /// streams have the same.
     pub fn priority(&self, stream: usize) -> u64 {
         self.streams[stream].priority
+    }
+
+    /// Indices of the streams of a stream's node that rank above it.
+    pub fn above(&self, stream: usize) -> impl Iterator<Item = usize> + '_ {
+        let node = &self.nodes[self.node_of(stream)];
+        let own = self.priority(stream);
+        (node.first..node.first + node.count).filter(move |&other| self.priority(other) < own)
     }
 
     /// Node and stream within the node, both from 1.

@@ -3,6 +3,7 @@
 
 mod budgets;
 mod edges;
+mod jitter;
 mod rank;
 mod search;
 mod tables;
@@ -10,16 +11,19 @@ mod tables;
 use std::collections::BTreeMap;
 use std::fmt;
 
-use crate::admission::last_try;
+use crate::admission::{last_try, Above};
 use crate::generate::{case, total_tries, Case, FAR_BEGIN, FAR_TURNS, FAR_WAIT};
 use crate::sheet::{Bus, LAST_TICK};
 use crate::{admit, check_sheet, one_stream, replay, step, Answer, NOT_BEGUN};
 use edges::{count_edges, edge};
+use jitter::count_jitters;
 use search::{count_found, count_late};
 
 pub use budgets::{gather_budgets, no_row_names, round_count, row_names, NO_ROW_NAMES, ROW_NAMES};
+pub use jitter::{event_names, jitter_names, kinds_of_jitters};
+pub use jitter::{EVENT_NAMES, IN_TIME_NAMES, JITTER_NAMES, TOO_LATE_NAMES};
 pub use search::{found_names, late_name, FOUND_NAMES, LATE_NAMES};
-pub use tables::gather_tables;
+pub use tables::{gather_tables, tables_fault};
 
 /// Counts by name, one line each when written out.
 #[derive(Default)]
@@ -56,6 +60,14 @@ impl fmt::Display for Figures {
     }
 }
 
+/// The names that fit.
+fn fitting<const N: usize>(names: [&'static str; N], fits: [bool; N]) -> Vec<&'static str> {
+    let pairs = names.into_iter().zip(fits);
+    pairs
+        .filter_map(|(name, fits)| fits.then_some(name))
+        .collect()
+}
+
 pub fn gather(seed: u64, count: u64) -> Figures {
     let mut figures = Figures::default();
     for index in 0..count {
@@ -74,7 +86,7 @@ pub fn gather(seed: u64, count: u64) -> Figures {
 /// Which of the three words of a row are wrong.
 fn row_cause(sheet: &[u32], node: usize) -> &'static str {
     let row = |node: usize| &sheet[3 * node..3 * node + 3];
-    let before: u32 = (1..node).map(|node| 2 * row(node)[1]).sum();
+    let before: u32 = (1..node).map(|node| 3 * row(node)[1]).sum();
     let place = row(node)[0] != 3 + 3 * sheet[0] + before;
     let count = row(node)[1] > 16;
     let budget = row(node)[2] < 1 || row(node)[2] > 16;
@@ -93,20 +105,31 @@ fn length_cause(sheet: &[u32]) -> &'static str {
         return "short contents";
     }
     let rows = sheet[3..contents].chunks_exact(3);
-    let end = contents + rows.map(|row| 2 * row[1] as usize).sum::<usize>();
+    let end = contents + rows.map(|row| 3 * row[1] as usize).sum::<usize>();
     match sheet.len() < end {
         true => "bodies too short",
         false => "bodies too long",
     }
 }
 
-fn stream_cause(sheet: &[u32], node: usize, stream: usize) -> &'static str {
-    let place = sheet[3 * node] as usize + 2 * (stream - 1);
-    match (sheet[place], sheet[place + 1]) {
+/// Which word of a stream of a sheet is wrong, given its place in refusal 5.
+pub fn sheet_fault(sheet: &[u32], node: u32, stream: u32) -> &'static str {
+    let place = sheet[3 * node as usize] as usize + 3 * (stream as usize - 1);
+    words_cause(sheet[place], sheet[place + 1], sheet[place + 2])
+}
+
+/// How a jitter is wrong.
+pub const JITTER_FAULTS: [&str; 2] = ["jitter at period", "jitter above period"];
+
+/// Which word of a stream is wrong.
+fn words_cause(period: u32, deadline: u32, jitter: u32) -> &'static str {
+    match (period, deadline) {
         (0, _) => "period low",
         (period, _) if period > LAST_TICK => "period high",
         (_, 0) => "deadline low",
-        _ => "deadline above period",
+        (period, deadline) if deadline > period => "deadline above period",
+        (period, _) if jitter == period => JITTER_FAULTS[0],
+        _ => JITTER_FAULTS[1],
     }
 }
 
@@ -118,15 +141,15 @@ fn header_cause(word: u32) -> &'static str {
 }
 
 fn sheet_cause(sheet: &[u32], answer: Answer) -> String {
-    let (node, stream) = (answer.second as usize, answer.third as usize);
+    let (node, stream) = (answer.second, answer.third);
     match answer.number {
         1 => format!("1 with {} words", sheet.len()),
         2 => format!("2 {}", header_cause(sheet[0])),
         3 if (1..=10_000).contains(&sheet[1]) => format!("3 slot {}", header_cause(sheet[2])),
         3 => format!("3 message {}", header_cause(sheet[1])),
         4 if node == 0 => format!("4 {}", length_cause(sheet)),
-        4 => format!("4 {}", row_cause(sheet, node)),
-        5 => format!("5 {}", stream_cause(sheet, node, stream)),
+        4 => format!("4 {}", row_cause(sheet, node as usize)),
+        5 => format!("5 {}", sheet_fault(sheet, node, stream)),
         other => format!("{other} unexpected"),
     }
 }
@@ -155,6 +178,7 @@ fn count_sheet(figures: &mut Figures, case: &Case) {
         figures.total("sheet admitted with streams", 1);
     }
     count_edges(figures, &case.sheet, answer);
+    count_jitters(figures, &case.sheet);
 }
 
 /// Whether some search sums up more releases than 32 bits hold.
@@ -163,12 +187,9 @@ fn demand_is_wide(sheet: &[u32]) -> bool {
         return false;
     };
     let releases = |stream: usize| {
-        let window = last_try(&bus, stream) * bus.cycle();
-        let node = &bus.nodes()[bus.node_of(stream)];
-        let others = node.first..node.first + node.count;
-        others
-            .filter(|&other| bus.priority(other) < bus.priority(stream))
-            .map(|other| window.div_ceil(u64::from(bus.streams()[other].period)))
+        let last = (last_try(&bus, stream) * bus.cycle()).saturating_sub(1);
+        bus.above(stream)
+            .map(|other| Above::from(&bus.streams()[other]).releases(last))
             .sum::<u64>()
     };
     (0..bus.streams().len()).any(|stream| releases(stream) > u64::from(u32::MAX))
@@ -216,6 +237,9 @@ fn count_question(figures: &mut Figures, case: &Case) {
         if let Some((kind, _)) = stream.and_then(|stream| edge(&bus, stream)) {
             figures.add(format!("one stream {}, {kind}", answer.number));
         }
+    }
+    for name in jitter_names(&case.sheet, case.node, case.stream) {
+        figures.add(format!("one stream {}, {name}", answer.number));
     }
 }
 
@@ -297,6 +321,9 @@ fn count_replay(figures: &mut Figures, case: &Case) {
             );
             for level in rank::of_replay(case, &room) {
                 figures.add(format!("replay 0, ordered by {level}"));
+            }
+            for name in event_names(case) {
+                figures.add(format!("replay 0, {name}"));
             }
         }
         9 => figures.add(format!("replay 9 {}", log_cause(&case.log, answer))),

@@ -4,8 +4,8 @@ use std::fmt::Write;
 
 use crate::{admit, check_sheet, refusal, replay, Answer, NOT_BEGUN};
 
-/// The longest valid sheet: 3 + 3 × 16 + 2 × 256 words.
-pub const MOST_SHEET_BYTES: usize = 2_252;
+/// The longest valid sheet: 3 + 3 × 16 + 3 × 256 words.
+pub const MOST_SHEET_BYTES: usize = 3_276;
 /// A horizon and 4,096 releases.
 pub const MOST_SECOND_BYTES: usize = 32_772;
 

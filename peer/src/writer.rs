@@ -7,8 +7,8 @@ use crate::sheet::{
 use crate::{refusal, success, Answer};
 
 /// What a sheet says, but for the places of its bodies: a count and a budget
-/// for each node, a period and a deadline for each stream in sheet order. What
-/// is lent to the writer may hold anything.
+/// for each node, a period, a deadline and a jitter for each stream in sheet
+/// order. What is lent to the writer may hold anything.
 #[derive(Clone, PartialEq, Eq, Debug)]
 pub struct Tables {
     pub message_ticks: u32,
@@ -17,13 +17,16 @@ pub struct Tables {
     pub budgets: Vec<u32>,
     pub periods: Vec<u32>,
     pub deadlines: Vec<u32>,
+    pub jitters: Vec<u32>,
 }
 
-/// A node with its own part of the periods and of the deadlines.
+/// A node with its own part of the periods, of the deadlines and of the
+/// jitters.
 pub(crate) struct Part<'a> {
     pub budget: u32,
     periods: &'a [u32],
     deadlines: &'a [u32],
+    jitters: &'a [u32],
 }
 
 /// Makes the sheet in the first words of the room and answers their number
@@ -45,6 +48,7 @@ pub fn read_tables(sheet: &[u32]) -> Result<Tables, Answer> {
         budgets: Vec::new(),
         periods: Vec::new(),
         deadlines: Vec::new(),
+        jitters: Vec::new(),
     };
     let rows = sheet[HEADER_WORDS..].chunks_exact(ROW_WORDS);
     for row in rows.take(sheet[0] as usize) {
@@ -54,6 +58,7 @@ pub fn read_tables(sheet: &[u32]) -> Result<Tables, Answer> {
         for stream in body.take(row[1] as usize) {
             tables.periods.push(stream[0]);
             tables.deadlines.push(stream[1]);
+            tables.jitters.push(stream[2]);
         }
     }
     Ok(tables)
@@ -62,7 +67,7 @@ pub fn read_tables(sheet: &[u32]) -> Result<Tables, Answer> {
 impl Tables {
     fn write(&self, room: &mut [u32]) -> Result<Answer, Answer> {
         let nodes = self.nodes()?;
-        check_streams(&nodes)?;
+        check_streams(&nodes, stream_right)?;
         let words = self.words(&nodes);
         put(&words, room)?;
         Ok(success(words.len() as u64, self.cycle(&nodes)))
@@ -90,16 +95,18 @@ impl Tables {
         }
         // Each node takes its part off the front; that nothing is missing and
         // nothing left says that the lengths are right.
-        let (mut periods, mut deadlines) = (&self.periods[..], &self.deadlines[..]);
+        let mut rest = [&self.periods, &self.deadlines, &self.jitters].map(|table| &table[..]);
         let parts = rows().map(|(&count, &budget)| {
+            let [periods, deadlines, jitters] = &mut rest;
             Some(Part {
                 budget,
                 periods: periods.split_off(..count as usize)?,
                 deadlines: deadlines.split_off(..count as usize)?,
+                jitters: jitters.split_off(..count as usize)?,
             })
         });
         match parts.collect() {
-            Some(parts) if periods.is_empty() && deadlines.is_empty() => Ok(parts),
+            Some(parts) if rest.iter().all(|table| table.is_empty()) => Ok(parts),
             _ => Err(refusal(4, 0, 0)),
         }
     }
@@ -125,18 +132,24 @@ impl Tables {
 }
 
 impl<'a> Part<'a> {
-    /// Period and deadline of each.
-    fn streams(&self) -> impl Iterator<Item = [u32; 2]> + 'a {
-        let pairs = self.periods.iter().zip(self.deadlines);
-        pairs.map(|(&period, &deadline)| [period, deadline])
+    /// Period, deadline and jitter of each.
+    fn streams(&self) -> impl Iterator<Item = [u32; STREAM_WORDS]> + 'a {
+        let tables = self.periods.iter().zip(self.deadlines).zip(self.jitters);
+        tables.map(|((&period, &deadline), &jitter)| [period, deadline, jitter])
     }
 }
 
-/// Refusal 5.
-pub(crate) fn check_streams(nodes: &[Part]) -> Result<(), Answer> {
+/// Whether the words of a stream are in range.
+pub(crate) fn stream_right([period, deadline, jitter]: [u32; STREAM_WORDS]) -> bool {
+    period <= LAST_TICK && (1..=period).contains(&deadline) && jitter < period
+}
+
+/// Refusal 5, if not all streams are as `right` says.
+pub(crate) fn check_streams(
+    nodes: &[Part],
+    right: fn([u32; STREAM_WORDS]) -> bool,
+) -> Result<(), Answer> {
     for (node, number) in nodes.iter().zip(1..) {
-        let right =
-            |[period, deadline]: [u32; 2]| period <= LAST_TICK && (1..=period).contains(&deadline);
         if let Some(stream) = node.streams().position(|stream| !right(stream)) {
             return Err(refusal(5, number, stream as u32 + 1));
         }

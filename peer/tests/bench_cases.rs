@@ -1,5 +1,6 @@
 //! P1 to P12 of document 01, with every value; P2 and P3 as request One of
-//! document 02 has them, P7 and another P2 as request Four does.
+//! document 02 has them, P7 and another P2 as request Four does. The jitters are
+//! 0, as request Six has them.
 
 mod common;
 
@@ -17,7 +18,7 @@ fn p1_sheet_a_lists_16_33_16() {
 /// Sheet A with another deadline for the second stream of node 1; below 40 it
 /// ranks above the first.
 fn second_deadline(deadline: u32) -> Vec<u32> {
-    sheet_a_with(&[(12, deadline)])
+    sheet_a_with(&[(13, deadline)])
 }
 
 #[test]
@@ -55,21 +56,21 @@ fn deadlines_around_those_of_p2_and_p3() {
 fn p2_with_a_first_deadline_of_38_too_is_late() {
     // The first stream has the shorter period, so the second waits for 33, and
     // its turn ends 39 ticks after the release.
-    let sheet = sheet_a_with(&[(10, 38), (12, 38)]);
+    let sheet = sheet_a_with(&[(10, 38), (13, 38)]);
     assert_admit_refused(&sheet, answer(7, 1, 2));
     assert_eq!(one_stream(&sheet, 1, 2), answer(7, 1, 2));
     assert_eq!(one_stream(&sheet, 1, 1), answer(0, 16, 1));
-    let sheet = sheet_a_with(&[(10, 39), (12, 39)]);
+    let sheet = sheet_a_with(&[(10, 39), (13, 39)]);
     assert_eq!(admitted(&sheet, 3), (answer(0, 3, 17), vec![16, 33, 16]));
 }
 
 #[test]
 fn a_deadline_of_39_behind_another_is_just_met() {
     // The first stream has the shorter deadline, so the second waits for 33.
-    let sheet = sheet_a_with(&[(10, 30), (12, 39)]);
+    let sheet = sheet_a_with(&[(10, 30), (13, 39)]);
     assert_eq!(admitted(&sheet, 3), (answer(0, 3, 17), vec![16, 33, 16]));
     for deadline in [37, 38] {
-        let sheet = sheet_a_with(&[(10, 30), (12, deadline)]);
+        let sheet = sheet_a_with(&[(10, 30), (13, deadline)]);
         assert_admit_refused(&sheet, answer(7, 1, 2));
         assert_eq!(one_stream(&sheet, 1, 2), answer(7, 1, 2));
         assert_eq!(one_stream(&sheet, 1, 1), answer(0, 16, 1));

@@ -21,7 +21,7 @@ fn by_ceiling() {
     assert_eq!(waits(admit, &p5, 3).1, [16, 50, 16]);
     assert_eq!(waits(entry, &p5, 3).1, [16, 33, 16]);
     assert_eq!(waits(entry, &SHEET_A, 3), waits(admit, &SHEET_A, 3));
-    let late = sheet_a_with(&[(14, 20)]);
+    let late = sheet_a_with(&[(16, 20)]);
     assert_eq!(waits(entry, &late, 3), (answer(7, 2, 1), vec![OLD; 3]));
 }
 
@@ -72,7 +72,7 @@ fn without_silent_slots() {
 
 #[test]
 fn writing_early() {
-    let late = sheet_a_with(&[(14, 20)]);
+    let late = sheet_a_with(&[(16, 20)]);
     let refused = answer(7, 2, 1);
     let entry = broken::admit_writing_early;
     assert_eq!(waits(admit, &late, 3), (refused, vec![OLD; 3]));
@@ -84,11 +84,11 @@ fn writing_early() {
 fn ranked_by_period() {
     let entry = broken::admit_ranked_by_period;
     // One tick more than in P2 is just in time under the old rank, P2 is late.
-    let longer = sheet_a_with(&[(12, 39)]);
+    let longer = sheet_a_with(&[(13, 39)]);
     assert_eq!(waits(admit, &longer, 3).1, [33, 16, 16]);
     assert_eq!(waits(entry, &longer, 3).1, [16, 33, 16]);
-    let p3 = sheet_a_with(&[(12, 37)]);
-    for late in [&sheet_a_with(&[(12, 38)]), &p3] {
+    let p3 = sheet_a_with(&[(13, 37)]);
+    for late in [&sheet_a_with(&[(13, 38)]), &p3] {
         assert_eq!(waits(admit, late, 3).1, [33, 16, 16]);
         assert_eq!(waits(entry, late, 3), (answer(7, 1, 2), vec![OLD; 3]));
     }
@@ -211,10 +211,10 @@ fn orders(sheet: &[u32], key: Key) -> Vec<Vec<u32>> {
     if check_sheet(sheet).number != 0 {
         return vec![];
     }
-    let order = |streams: &Vec<(u32, u32)>| {
+    let order = |streams: &Vec<[u32; 3]>| {
         let mut order: Vec<u32> = (0..streams.len() as u32).collect();
         order.sort_by_key(|&number| {
-            let (period, deadline) = streams[number as usize];
+            let [period, deadline, _] = streams[number as usize];
             key(deadline, period, number)
         });
         order

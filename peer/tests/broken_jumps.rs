@@ -10,11 +10,12 @@ use peer::{admit, broken, check_sheet, one_stream};
 
 const TICKS: u32 = 1_000_000_000;
 
-const JUMPS: [(&str, Admit); 4] = [
+const JUMPS: [(&str, Admit); 5] = [
     ("too far", broken::admit_jumping_too_far),
     ("rates rounded up", broken::admit_rounding_rates_up),
     ("every place taken", broken::admit_with_every_place_taken),
     ("counted twice", broken::admit_counting_fast_twice),
+    ("over jitters", broken::admit_jumping_over_jitters),
 ];
 
 /// What was compared.
@@ -100,7 +101,7 @@ fn too_far() {
     assert_eq!(waits(admit, &SHEET_A, 3).1, [16, 33, 16]);
     assert_eq!(waits(entry, &SHEET_A, 3).1, [16, 50, 16]);
     // J is 2, and the deadline of 44 ends the search there.
-    let late = sheet_a_with(&[(10, 40), (11, 60), (12, 44)]);
+    let late = sheet_a_with(&[(10, 40), (12, 60), (13, 44)]);
     assert_eq!(waits(admit, &late, 3).1, [16, 33, 16]);
     assert_eq!(waits(entry, &late, 3), (answer(7, 1, 2), vec![OLD; 3]));
 }
@@ -140,9 +141,20 @@ fn counted_twice() {
     let entry = broken::admit_counting_fast_twice;
     // 1 + 1 by what 17 / 40 leaves is over 3, and J 3 is the last in time.
     assert_eq!(waits(entry, &SHEET_A, 3), (answer(7, 1, 2), vec![OLD; 3]));
-    let longer = sheet_a_with(&[(11, 100), (12, 100)]);
+    let longer = sheet_a_with(&[(12, 100), (13, 100)]);
     assert_eq!(waits(admit, &longer, 3).1, [16, 33, 16]);
     assert_eq!(waits(entry, &longer, 3).1, [16, 67, 16]);
+}
+
+/// A jitter of 7 brings one release more in two cycles, but not in three.
+#[test]
+fn over_jitters() {
+    let entry = broken::admit_jumping_over_jitters;
+    let sheet = |jitter: u32| sheet_a_with(&[(11, jitter), (12, 200), (13, 200)]);
+    assert_eq!(waits(admit, &sheet(7), 3).1, [16, 50, 16]);
+    // 1 + 1 + 7 / 40 by what 17 / 40 leaves is over 3.
+    assert_eq!(waits(entry, &sheet(7), 3).1, [16, 67, 16]);
+    assert_eq!(waits(entry, &sheet(0), 3), waits(admit, &sheet(0), 3));
 }
 
 #[test]
@@ -161,7 +173,7 @@ fn right_without_a_jump() {
 
 #[test]
 fn wrong_jumps_on_generated_cases() {
-    let least = [250, 25, 60, 250];
+    let least = [250, 25, 60, 250, 30];
     for ((name, entry), least) in JUMPS.into_iter().zip(least) {
         let cases = count(|case| admits_differ(entry, case));
         assert!(cases >= least, "{name}: {cases}");

@@ -66,7 +66,7 @@ fn wrong_edges() {
 fn the_old_test_admits_p7_and_p2() {
     let entry = broken::admit_delivering_at_own_end;
     assert_eq!(waits(entry, &SHEET_P7, 2), (answer(0, 2, 6), vec![5, 17]));
-    let p2 = sheet_a_with(&[(10, 38), (12, 38)]);
+    let p2 = sheet_a_with(&[(10, 38), (13, 38)]);
     let old = (answer(0, 3, 17), vec![16, 33, 16]);
     assert_eq!(waits(entry, &p2, 3), old);
 }

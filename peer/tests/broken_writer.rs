@@ -21,7 +21,7 @@ const WRITERS: [(&str, Writer); 8] = [
 fn small() -> TablesCase {
     TablesCase {
         tables: tables_a_but(|tables| tables.deadlines[2] = 29),
-        room: vec![OLD; 17],
+        room: vec![OLD; 20],
     }
 }
 
@@ -33,8 +33,8 @@ fn small_but(change: impl FnOnce(&mut Tables)) -> TablesCase {
 
 /// What the good writer makes of `small`, with some words changed.
 fn sheet_but(changes: &[(usize, u32)]) -> (Answer, Vec<u32>) {
-    let sheet = [&SHEET_A[..14], &[29, OLD, OLD]].concat();
-    (answer(0, 15, 17), with(&sheet, changes))
+    let sheet = [&SHEET_A[..16], &[29, 0, OLD, OLD]].concat();
+    (answer(0, 18, 17), with(&sheet, changes))
 }
 
 #[test]
@@ -51,44 +51,44 @@ fn wrong_words() {
     );
     assert_eq!(
         written_by(broken::write_bodies_swapped, &small()),
-        sheet_but(&[(13, 29), (14, 30)])
+        sheet_but(&[(15, 29), (16, 30)])
     );
     assert_eq!(
         written_by(broken::write_past_the_sheet, &small()),
-        sheet_but(&[(15, 0)])
+        sheet_but(&[(18, 0)])
     );
-    let short = (answer(0, 15, 7), sheet_but(&[]).1);
+    let short = (answer(0, 18, 7), sheet_but(&[]).1);
     assert_eq!(written_by(broken::write_short_cycle, &small()), short);
 }
 
 #[test]
 fn wrong_checks() {
     let bad = small_but(|tables| tables.deadlines[1] = 61);
-    let refused = (answer(5, 1, 2), vec![OLD; 17]);
+    let refused = (answer(5, 1, 2), vec![OLD; 20]);
     assert_eq!(written_by(write_sheet, &bad), refused);
-    let early = (answer(5, 1, 2), sheet_but(&[(12, 61)]).1);
+    let early = (answer(5, 1, 2), sheet_but(&[(13, 61)]).1);
     assert_eq!(written_by(broken::write_before_streams, &bad), early);
     let both = TablesCase {
-        room: vec![OLD; 14],
+        room: vec![OLD; 17],
         ..bad
     };
-    let refused = (answer(5, 1, 2), vec![OLD; 14]);
+    let refused = (answer(5, 1, 2), vec![OLD; 17]);
     assert_eq!(written_by(write_sheet, &both), refused);
     assert_eq!(written_by(broken::write_before_streams, &both), refused);
-    let room_first = (answer(6, 0, 0), vec![OLD; 14]);
+    let room_first = (answer(6, 0, 0), vec![OLD; 17]);
     assert_eq!(
         written_by(broken::write_room_before_streams, &both),
         room_first
     );
     for deadlines in 0..6 {
         let case = small_but(|tables| tables.deadlines.resize(deadlines, 5));
-        let refused = (answer(4, 0, 0), vec![OLD; 17]);
+        let refused = (answer(4, 0, 0), vec![OLD; 20]);
         if deadlines != 3 {
             assert_eq!(written_by(write_sheet, &case), refused);
         }
         let mut expected = sheet_but(&[]);
         for missing in deadlines..3 {
-            expected.1[10 + 2 * missing] = 1;
+            expected.1[10 + 3 * missing] = 1;
         }
         assert_eq!(written_by(broken::write_any_deadlines, &case), expected);
     }
@@ -102,6 +102,7 @@ fn right_where_the_error_plays_no_part() {
         tables.budgets = vec![3];
         tables.periods.clear();
         tables.deadlines.clear();
+        tables.jitters.clear();
     });
     case.room.truncate(6);
     for (name, writer) in WRITERS {

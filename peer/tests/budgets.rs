@@ -45,6 +45,36 @@ fn both_sides_of_each_edge() {
     }
 }
 
+/// Two streams that are delivered 29 ticks after queuing with 1, the second of
+/// them, and 21 with 2. The deadlines run from the events.
+#[test]
+fn both_sides_of_each_edge_with_jitter() {
+    for (first, second, row) in [
+        (0, 0, Some(1)),
+        (0, 8, Some(1)),
+        (0, 9, Some(2)),
+        (0, 16, Some(2)),
+        (0, 17, None),
+        (16, 0, Some(1)),
+        (16, 8, Some(1)),
+        (16, 9, Some(2)),
+        (16, 16, Some(2)),
+        // The first is in time with 1 and late with 2.
+        (17, 8, Some(1)),
+        (17, 9, None),
+        (18, 0, None),
+        (36, 0, None),
+    ] {
+        let streams = [[37, 37, first], [90, 37, second]];
+        let sheet = jittery_sheet(1, 9, &[(7, &streams)]);
+        let expected = match row {
+            Some(budget) => (answer(0, budget, 9 + budget), vec![budget]),
+            None => (answer(11, 1, 0), vec![]),
+        };
+        assert_eq!(found(&sheet), expected, "{first} {second}");
+    }
+}
+
 /// What one node gets makes the other late, which gets more in its turn.
 #[test]
 fn more_for_one_may_take_more_for_another() {
@@ -146,7 +176,8 @@ fn faults_of_the_sheet_go_first() {
         late[..8].to_vec(),
         with(&late, &[(3, 10)]),
         [&late[..], &[1]].concat(),
-        with(&late, &[(11, 0)]),
+        with(&late, &[(12, 0)]),
+        with(&late, &[(14, 500)]),
     ];
     let places = [
         (1, 0, 0),
@@ -155,6 +186,7 @@ fn faults_of_the_sheet_go_first() {
         (4, 0, 0),
         (4, 1, 0),
         (4, 0, 0),
+        (5, 2, 1),
         (5, 2, 1),
     ];
     for (sheet, place) in faulty.iter().zip(places) {
@@ -196,6 +228,11 @@ fn named_cases() {
         ("one by one to 16, just in time", answer(0, 256, 576)),
         ("one node that needs 2", answer(0, 2, 11)),
         ("empty nodes around one that needs 3", answer(0, 5, 32)),
+        ("a jitter of 8 that 1 allows", answer(0, 1, 10)),
+        ("a jitter of 9 that takes 2", answer(0, 2, 11)),
+        ("a jitter of 16 that takes 2", answer(0, 2, 11)),
+        ("a jitter of 15 above that 1 allows", answer(0, 1, 10)),
+        ("a jitter of 16 above that takes 2", answer(0, 2, 11)),
         ("sixteen nodes of sixteen, all smallest", answer(11, 1, 0)),
         ("the longest turns, late by one", answer(11, 1, 0)),
         ("one by one to 16, late by one", answer(11, 9, 0)),
@@ -204,6 +241,9 @@ fn named_cases() {
         ("the first late first", answer(11, 1, 0)),
         ("the third late a round before the second", answer(11, 3, 0)),
         ("behind one that is in time at 16", answer(11, 2, 0)),
+        ("a jitter of 17 that no row allows", answer(11, 1, 0)),
+        ("a jitter at the deadline", answer(11, 1, 0)),
+        ("a jitter above the deadline", answer(11, 1, 0)),
         ("more only makes it later", answer(11, 1, 0)),
         ("nothing at all", answer(1, 0, 0)),
         ("every word the greatest", answer(2, 0, 0)),
@@ -211,6 +251,7 @@ fn named_cases() {
         ("a budget of 0, a short room", answer(4, 1, 0)),
         ("a budget of 17, a short room", answer(4, 2, 0)),
         ("a deadline of 0, a short room", answer(5, 1, 2)),
+        ("a jitter of 60, a short room", answer(5, 1, 2)),
         ("a good sheet, no room", answer(6, 0, 0)),
         ("a good sheet, a room of 2", answer(6, 0, 0)),
         ("a good sheet, a room of 15", answer(6, 0, 0)),

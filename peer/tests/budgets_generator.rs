@@ -36,10 +36,10 @@ fn cases_spread_over_all_answers() {
 #[test]
 fn cases_spread_over_rows_and_reasons() {
     let figures = gather_budgets(3, 5_000);
-    for (name, share) in ROW_NAMES.into_iter().zip([800, 40, 4]) {
+    for (name, share) in ROW_NAMES.into_iter().zip([800, 40, 4, 100]) {
         least(&figures, &[&format!("find 0, {name}")], share);
     }
-    let shares = [900, 150, 400, 600, 70, 500, 3];
+    let shares = [900, 150, 400, 600, 70, 500, 3, 100];
     for (name, share) in NO_ROW_NAMES.into_iter().zip(shares) {
         least(&figures, &[&format!("find 11, {name}")], share);
     }
@@ -66,7 +66,7 @@ fn cases_keep_to_their_limit() {
         let cycle = sheet[0] * (sheet[1] + sheet[2]);
         let streams = bodies(sheet).into_iter().flatten();
         streams
-            .map(|(_, deadline)| u64::from(deadline / cycle))
+            .map(|[_, deadline, _]| u64::from(deadline / cycle))
             .sum()
     };
     let sheets = (0..5_000).map(|index| budgets_case(5, index).sheet);
@@ -110,9 +110,12 @@ fn names_of_rows() {
         let (_, room) = found_by(find_budgets, &case);
         row_names(&case.sheet, &room[..16])
     };
-    let [above, sixteen, many] = ROW_NAMES;
+    let [above, sixteen, many, jitter] = ROW_NAMES;
     assert_eq!(names("all ones"), [""; 0]);
     assert_eq!(names("one node that needs 2"), [above]);
+    assert_eq!(names("a jitter of 8 that 1 allows"), [""; 0]);
+    assert_eq!(names("a jitter of 9 that takes 2"), [above, jitter]);
+    assert_eq!(names("a jitter of 16 above that takes 2"), [above, jitter]);
     assert_eq!(names("the longest turns, just in time"), [above, sixteen]);
     let all = names("one by one to 16, just in time");
     assert_eq!(all, [above, sixteen, many]);
@@ -121,7 +124,7 @@ fn names_of_rows() {
 #[test]
 fn names_of_refusals() {
     let names = |name: &str| no_row_names(&named_budgets_case(name).sheet);
-    let [always, afterwards, behind_late, before_late, behind_in_time, before_full, many] =
+    let [always, afterwards, behind_late, before_late, behind_in_time, before_full, many, jitter] =
         NO_ROW_NAMES;
     for (name, expected) in [
         ("both late in every round", &[always, before_full][..]),
@@ -135,6 +138,7 @@ fn names_of_refusals() {
             "one by one to 16, late by one",
             &[afterwards, behind_in_time, many],
         ),
+        ("a jitter of 17 that no row allows", &[always, jitter]),
         ("all ones", &[]),
         ("nothing at all", &[]),
     ] {

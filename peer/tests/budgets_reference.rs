@@ -10,23 +10,20 @@ use peer::{admit, check_sheet, find_budgets, find_budgets_by_rounds};
 type Row = Vec<usize>;
 
 /// Whether a stream of the node is late, by the words of document 01 and of
-/// request Four. A J whose delivery is past the deadline makes it late, and so
-/// does one further on, so that none of those is tried.
+/// requests Four and Six. A J whose delivery is past the deadline makes it late,
+/// and so does one further on, so that none of those is tried.
 fn is_late(bus: &Plain, node: usize, budget: u64, sum: u64) -> bool {
     let streams = &bus.nodes[node].1;
     let cycle = sum * bus.message + bus.nodes.len() as u64 * bus.slot;
     let in_time = |stream: usize| {
-        let above = (0..streams.len()).filter(|&other| ranks_above(streams, other, stream));
-        let periods: Vec<u64> = above.map(|other| streams[other].0).collect();
-        let releases = |window: u64| {
-            periods
-                .iter()
-                .map(|period| 1 + window / period)
-                .sum::<u64>()
-        };
+        let above = streams_above(streams, stream);
+        let Stream {
+            deadline, jitter, ..
+        } = streams[stream];
+        let delivery = |j: u64| jitter + j * cycle - 1 + budget * bus.message + bus.slot;
         (1..)
-            .take_while(|j| j * cycle - 1 + budget * bus.message + bus.slot <= streams[stream].1)
-            .any(|j| releases(j * cycle - 1) < j * budget)
+            .take_while(|&j| delivery(j) <= deadline)
+            .any(|j| releases(&above, j * cycle - 1) < j * budget)
     };
     !(0..streams.len()).all(in_time)
 }
@@ -127,18 +124,24 @@ impl Times {
 }
 
 /// Streams of a small node: as many, and of a deadline, as the number says.
-/// From a deadline that all ones just miss, each further one is longer.
-fn small_node(number: u32, ticks: [u32; 2], nodes: u32) -> Vec<(u32, u32)> {
+/// From a deadline that all ones just miss, each further one is longer. Some
+/// have jitters: for some of these the deadline is longer, for others not.
+fn small_node(number: u32, ticks: [u32; 2], nodes: u32) -> Vec<[u32; 3]> {
     let turn = ticks[0] + ticks[1];
     let (count, step, style) = (number % 5, number / 5 % 10, number / 50 % 3);
     let deadline = |place: u32| {
         let further = [0, turn, 1][style as usize] * place;
         nodes * turn + turn - 2 + step * turn.div_ceil(2) + further
     };
-    let period = |place: u32| [1, 2, 5][(number + place) as usize % 3] * deadline(place);
-    (0..count)
-        .map(|place| (period(place), deadline(place)))
-        .collect()
+    let stream = |place: u32| {
+        let ticks = deadline(place);
+        let jitter = [0, 0, 1, 0, ticks / 2, 0, turn][((number + 3) * (place + 1)) as usize % 7];
+        let longer = (number + place) % 4;
+        let deadline = ticks + if longer > 0 { jitter } else { 0 };
+        let period = [1, 2, 5][(number + place) as usize % 3] * deadline;
+        [period, deadline, jitter]
+    };
+    (0..count).map(stream).collect()
 }
 
 /// Sheets of so many small nodes; every `apart`-th number of each.
@@ -151,8 +154,8 @@ fn small_sheets(nodes: u32, apart: usize) -> Vec<Vec<u32>> {
         let streams: Vec<_> = (0..nodes)
             .map(|node| small_node(part(node), ticks, nodes))
             .collect();
-        let rows: Vec<(u32, &[(u32, u32)])> = streams.iter().map(|it| (4, &it[..])).collect();
-        sheets.push(sheet(ticks[0], ticks[1], &rows));
+        let rows: Vec<(u32, &[[u32; 3]])> = streams.iter().map(|it| (4, &it[..])).collect();
+        sheets.push(jittery_sheet(ticks[0], ticks[1], &rows));
     }
     sheets
 }
@@ -178,7 +181,7 @@ fn every_row_of_some_small_sheets_of_three_nodes() {
     let mut times = Times::default();
     let sheets = small_sheets(3, 30_011);
     sheets.iter().for_each(|sheet| times.try_every_row(sheet));
-    times.are_at_least(30, 150, 200);
+    times.are_at_least(30, 120, 200);
 }
 
 /// Valid sheets of these numbers of nodes from the generated cases.
@@ -191,7 +194,7 @@ fn generated(seed: u64, count: u64, nodes: std::ops::RangeInclusive<u32>) -> Vec
 /// Long searches for J by division take long, so that their sheets are left out.
 fn is_quick(sheet: &[u32]) -> bool {
     let cycle = sheet[0] * (sheet[1] + sheet[2]);
-    let mut deadlines = bodies(sheet).into_iter().flatten().map(|stream| stream.1);
+    let mut deadlines = bodies(sheet).into_iter().flatten().map(|stream| stream[1]);
     deadlines.all(|deadline| deadline / cycle < 500)
 }
 

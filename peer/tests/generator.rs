@@ -3,10 +3,13 @@
 
 mod common;
 
+use std::collections::BTreeSet;
+
 use common::*;
 use peer::generate::{case, named, MOST_TRIES, MOST_TURNS};
-use peer::stats::gather;
-use peer::{admit, one_stream, replay, step};
+use peer::stats::{event_names, gather, jitter_names, kinds_of_jitters};
+use peer::stats::{EVENT_NAMES, IN_TIME_NAMES, JITTER_NAMES, TOO_LATE_NAMES};
+use peer::{admit, one_stream, read_tables, replay, step};
 
 #[test]
 fn a_case_depends_on_seed_and_index_alone() {
@@ -97,6 +100,60 @@ fn cases_spread_over_both_sides_of_the_late_test() {
     }
 }
 
+/// Shares of 5,000 cases: every kind of jitter, what it does to the question,
+/// and what the logs make of it.
+#[test]
+fn cases_spread_over_all_kinds_of_jitters() {
+    let figures = gather(8, 5_000);
+    let least = |kind: &str, names: &[&str], shares: &[u64]| {
+        assert_eq!(names.len(), shares.len());
+        for (name, &share) in names.iter().zip(shares) {
+            least(&figures, &[&format!("{kind} {name}")], share);
+        }
+    };
+    let shares = [2_500, 700, 250, 200, 100, 60];
+    least("sheet with", &JITTER_NAMES, &shares);
+    least("one stream 0,", &IN_TIME_NAMES, &[120, 70]);
+    least("one stream 7,", &TOO_LATE_NAMES, &[80, 150, 30, 5]);
+    least("replay 0,", &EVENT_NAMES, &[120, 100, 40, 800]);
+    for kind in ["just in time", "late by one tick"] {
+        let kind = format!("stream {kind},");
+        least(&kind, &["J 1, with jitter"], &[80]);
+        least(&kind, &["J 2 or more, with jitter"], &[80]);
+    }
+}
+
+#[test]
+fn names_of_what_jitters_do() {
+    let names = |words: [u32; 3], node: u32, stream: u32| {
+        let sheet = sheet_a_with(&[(11, words[0]), (14, words[1]), (17, words[2])]);
+        jitter_names(&sheet, node, stream)
+    };
+    let [just, more] = IN_TIME_NAMES;
+    let [by_one, own, above, both] = TOO_LATE_NAMES;
+    for (words, stream, expected) in [
+        ([0, 0, 0], 2, &[][..]),
+        ([6, 20, 0], 2, &[]),
+        ([6, 21, 0], 2, &[just]),
+        ([7, 3, 0], 2, &[more]),
+        ([7, 4, 0], 2, &[just, more]),
+        ([6, 22, 0], 2, &[by_one, own]),
+        ([6, 23, 0], 2, &[own]),
+        ([7, 5, 0], 2, &[by_one, own, above]),
+        ([7, 22, 0], 2, &[own]),
+        ([30, 0, 0], 2, &[above]),
+        ([30, 22, 0], 2, &[both]),
+        ([18, 0, 0], 1, &[just]),
+        ([19, 0, 0], 1, &[by_one, own]),
+    ] {
+        assert_eq!(names(words, 1, stream), expected, "{words:?}");
+    }
+    // Late without any, not there at all, and refused.
+    assert_eq!(jitter_names(&SHEET_P7, 1, 1), [""; 0]);
+    assert_eq!(names([0, 0, 0], 1, 3), [""; 0]);
+    assert_eq!(names([40, 0, 0], 1, 1), [""; 0]);
+}
+
 const LOG_CAUSES: [&str; 6] = [
     "odd length",
     "too many releases",
@@ -106,7 +163,7 @@ const LOG_CAUSES: [&str; 6] = [
     "stream too large",
 ];
 
-const SHEET_CAUSES: [&str; 20] = [
+const SHEET_CAUSES: [&str; 22] = [
     "1 with 0 words",
     "1 with 1 words",
     "1 with 2 words",
@@ -127,6 +184,8 @@ const SHEET_CAUSES: [&str; 20] = [
     "5 period high",
     "5 deadline low",
     "5 deadline above period",
+    "5 jitter at period",
+    "5 jitter above period",
 ];
 
 #[test]
@@ -182,7 +241,7 @@ fn refusals_leave_generated_rooms_and_records() {
 
 #[test]
 fn named_cases_have_names_of_their_own() {
-    let names: std::collections::BTreeSet<_> = named().iter().map(|case| case.0).collect();
+    let names: BTreeSet<_> = named().iter().map(|case| case.0).collect();
     assert_eq!(names.len(), named().len());
     assert!(names.len() >= 20, "{}", names.len());
 }
@@ -264,6 +323,90 @@ fn named_deliveries() {
         assert_eq!(given, answer(7, case.node, case.stream), "{name}");
         let given = admit(&case.sheet, &mut case.room);
         assert_eq!(given, answer(7, place.0, place.1), "{name}");
+    }
+}
+
+#[test]
+fn named_jitters() {
+    let ticks = |cycles: u32, cycle: u32| cycles * cycle - 1;
+    for (name, wait, cycles) in [
+        ("a jitter above, just not counted", 33, 2),
+        ("a jitter above, just counted", 50, 3),
+        ("fifteen of the longest jitter above", 61, 31),
+        ("a rank by the deadline, not by what is left of it", 11, 2),
+        ("an own jitter, just in time", 33, 2),
+        ("a jitter of the first, just in time", 16, 1),
+        ("jitters of a tick", 33, 2),
+        ("all jitters, just in time", 50, 3),
+        (
+            "half wait and half jitter, just in time",
+            ticks(31_623, 15_811),
+            31_623,
+        ),
+        (
+            "behind the longest jitter, just in time",
+            ticks(40_003, 10_000),
+            40_003,
+        ),
+        ("a release close to the one before it", 50, 3),
+        ("a release too close to the one before", 50, 3),
+    ] {
+        let case = named_case(name);
+        let given = one_stream(&case.sheet, case.node, case.stream);
+        assert_eq!(given, answer(0, wait, cycles), "{name}");
+    }
+    for name in [
+        "a full sheet of the longest jitters",
+        "an own jitter, late by one",
+        "a jitter of the first, late by one",
+        "late for a jitter above",
+        "late for both jitters",
+        "all jitters, late by one",
+        "a jitter just below the deadline",
+        "a jitter at the deadline",
+        "a jitter just above the deadline",
+        "a jitter just below the period",
+        "half wait and half jitter, late by one",
+        "behind the longest jitter, late by one",
+        "a release close before, late by one",
+    ] {
+        let case = named_case(name);
+        let given = one_stream(&case.sheet, case.node, case.stream);
+        assert_eq!(given, answer(7, case.node, case.stream), "{name}");
+    }
+    for (name, place) in [
+        ("a jitter at the period", (5, 1, 2)),
+        ("the last jitter at the period", (5, 2, 1)),
+        ("a jitter of all ones", (5, 1, 1)),
+        ("a sheet of two words a stream", (4, 2, 0)),
+    ] {
+        let (number, node, stream) = place;
+        let mut case = named_case(name);
+        let given = admit(&case.sheet, &mut case.room);
+        assert_eq!(given, answer(number, node, stream), "{name}");
+    }
+}
+
+/// So that a short comparison meets them all, too.
+#[test]
+fn named_cases_have_all_kinds_of_jitters() {
+    let mut met = BTreeSet::new();
+    for (_, case) in named() {
+        let Ok(tables) = read_tables(&case.sheet) else {
+            continue;
+        };
+        met.extend(kinds_of_jitters(&tables));
+        // The longest searches of all are in sheets without jitter.
+        if tables.jitters.iter().any(|&jitter| jitter > 0) {
+            met.extend(jitter_names(&case.sheet, case.node, case.stream));
+        }
+        if replay(&case.sheet, &case.log, 0, &mut case.room.clone()).number == 0 {
+            met.extend(event_names(&case));
+        }
+    }
+    let names = [&JITTER_NAMES[..], &IN_TIME_NAMES, &TOO_LATE_NAMES];
+    for name in names.concat().iter().chain(&EVENT_NAMES) {
+        assert!(met.contains(name), "{name}");
     }
 }
 

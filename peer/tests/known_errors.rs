@@ -41,7 +41,7 @@ fn a_silent_node_uses_its_slot() {
 #[test]
 fn no_wait_is_written_before_a_late_stream_is_found() {
     // The first two streams have waits; the third is late.
-    let sheet = sheet_a_with(&[(14, 20)]);
+    let sheet = sheet_a_with(&[(16, 20)]);
     let mut room = [OLD; 3];
     assert_eq!(admit(&sheet, &mut room), answer(7, 2, 1));
     assert_eq!(room, [OLD; 3]);

@@ -1,5 +1,6 @@
-//! The late test of request Four on both sides of its edge: a deadline of
-//! J × C − 1 + budget × TMS + TPR is in time, and one tick less is late.
+//! The late test of requests Four and Six on both sides of its edge: a deadline
+//! of jitter + J × C − 1 + budget × TMS + TPR is in time, and one tick less is
+//! late, as is one tick more of jitter.
 
 mod common;
 
@@ -15,6 +16,8 @@ struct Full {
     budget: u32,
     /// Budgets of the nodes before and after it, which have no streams.
     others: [u32; 2],
+    /// Of each stream.
+    jitter: u32,
 }
 
 impl Full {
@@ -29,7 +32,8 @@ impl Full {
     }
 
     fn deadline(&self, stream: u32) -> u32 {
-        self.cycles(stream) * self.cycle() - 1 + self.budget * self.message + self.slot
+        let turn = self.budget * self.message + self.slot;
+        self.jitter + self.cycles(stream) * self.cycle() - 1 + turn
     }
 
     fn wait(&self, stream: u32) -> u32 {
@@ -37,33 +41,34 @@ impl Full {
         self.cycles(stream) * self.cycle() - 1 + ahead * self.message
     }
 
-    /// The sheet with one deadline so many ticks shorter.
-    fn sheet(&self, shorter: u32, ticks: u32) -> Vec<u32> {
-        let deadline = |stream: u32| match stream == shorter {
-            true => self.deadline(stream) - ticks,
-            false => self.deadline(stream),
+    /// The sheet with one deadline so many ticks shorter, and its jitter so many
+    /// ticks longer.
+    fn sheet(&self, one: u32, shorter: u32, longer: u32) -> Vec<u32> {
+        let stream = |stream: u32| match stream == one {
+            true => [TICKS, self.deadline(stream) - shorter, self.jitter + longer],
+            false => [TICKS, self.deadline(stream), self.jitter],
         };
-        let streams: Vec<(u32, u32)> = (0..16).map(|stream| (TICKS, deadline(stream))).collect();
+        let streams: Vec<[u32; 3]> = (0..16).map(stream).collect();
         let [before, after] = self.others;
-        let nodes: [(u32, &[(u32, u32)]); 3] =
-            [(before, &[]), (self.budget, &streams), (after, &[])];
-        sheet(self.message, self.slot, &nodes)
+        let nodes: [(u32, &[[u32; 3]]); 3] = [(before, &[]), (self.budget, &streams), (after, &[])];
+        jittery_sheet(self.message, self.slot, &nodes)
     }
 }
 
 fn check_both_sides(full: &Full) {
-    let sheet = full.sheet(0, 0);
+    let sheet = full.sheet(0, 0, 0);
     let waits = (0..16).map(|stream| full.wait(stream)).collect();
     assert_eq!(admitted(&sheet, 16), (answer(0, 16, full.cycle()), waits));
     for stream in 0..16 {
         let expected = answer(0, full.wait(stream), full.cycles(stream));
         assert_eq!(one_stream(&sheet, 2, stream + 1), expected);
-        // It may pass others that need as many cycles, which makes it wait
-        // less, but be late all the same.
-        let late = full.sheet(stream, 1);
-        assert_admit_refused(&late, answer(7, 2, stream + 1));
-        let given = one_stream(&late, 2, stream + 1);
-        assert_eq!(given, answer(7, 2, stream + 1));
+        // With a shorter deadline it may pass others that need as many cycles,
+        // which makes it wait less, but be late all the same.
+        for late in [full.sheet(stream, 1, 0), full.sheet(stream, 0, 1)] {
+            assert_admit_refused(&late, answer(7, 2, stream + 1));
+            let given = one_stream(&late, 2, stream + 1);
+            assert_eq!(given, answer(7, 2, stream + 1));
+        }
     }
 }
 
@@ -71,12 +76,13 @@ fn check_both_sides(full: &Full) {
 fn every_budget_and_up_to_sixteen_cycles() {
     for budget in 1..=16 {
         for (message, slot) in [(1, 1), (5, 1), (1, 7), (10_000, 1), (1, 10_000)] {
-            for others in [[1, 1], [16, 3]] {
+            for (others, jitter) in [([1, 1], 0), ([16, 3], 0), ([2, 1], 1), ([1, 4], 90_000)] {
                 check_both_sides(&Full {
                     message,
                     slot,
                     budget,
                     others,
+                    jitter,
                 });
             }
         }
@@ -92,6 +98,7 @@ fn the_place_in_the_turn_plays_no_part() {
         slot: 2,
         budget: 3,
         others: [1, 1],
+        jitter: 0,
     };
     assert_eq!((full.cycle(), full.wait(0), full.wait(2)), (31, 30, 40));
     assert_eq!((full.deadline(0), full.deadline(2)), (47, 47));

@@ -51,7 +51,7 @@ fn admit_sheet_a_to_the_byte() {
 
 #[test]
 fn admit_keeps_sheet_order_whatever_the_rank() {
-    let p3 = bytes(&sheet_a_with(&[(12, 37)]));
+    let p3 = bytes(&sheet_a_with(&[(13, 37)]));
     let expected = "node stream wait\n1 1 33\n1 2 16\n2 1 16\nadmitted 3\n";
     assert_eq!(admit_program(&p3), expected);
     assert_eq!(run_admit(&p3), expected);
@@ -59,11 +59,25 @@ fn admit_keeps_sheet_order_whatever_the_rank() {
 
 #[test]
 fn admit_refuses_in_one_line() {
-    let late = bytes(&sheet_a_with(&[(10, 30), (12, 37)]));
+    let late = bytes(&sheet_a_with(&[(10, 30), (13, 37)]));
     assert_eq!(admit_program(&late), "refused 7 at 1 2\n");
     assert_eq!(run_admit(&late), "refused 7 at 1 2\n");
-    let short = bytes(&SHEET_A[..14]);
+    let short = bytes(&SHEET_A[..17]);
     assert_eq!(admit_program(&short), "refused 4 at 0 0\n");
+}
+
+#[test]
+fn admit_with_jitters() {
+    // The waits start when a message is queued.
+    let in_time = bytes(&sheet_a_with(&[(11, 7), (14, 4), (17, 3)]));
+    let expected = "node stream wait\n1 1 16\n1 2 50\n2 1 16\nadmitted 3\n";
+    assert_eq!(admit_program(&in_time), expected);
+    assert_eq!(run_admit(&in_time), expected);
+    let late = bytes(&sheet_a_with(&[(11, 7), (14, 5), (17, 3)]));
+    assert_eq!(admit_program(&late), "refused 7 at 1 2\n");
+    let bad = bytes(&sheet_a_with(&[(14, 60)]));
+    assert_eq!(admit_program(&bad), "refused 5 at 1 2\n");
+    assert_eq!(run_admit(&bad), "refused 5 at 1 2\n");
 }
 
 #[test]
@@ -82,18 +96,21 @@ fn admit_judges_the_length_first() {
         assert_eq!(run_admit(&input), "refused 1 at 0 0\n");
     }
     // n is 0 here: refusal 2 at the limit, 1 past it.
-    assert_eq!(admit_program(&vec![0; 2_252]), "refused 2 at 0 0\n");
-    for length in [2_253, 2_256, 100_000] {
+    for length in [2_252, 2_256, 3_276] {
+        assert_eq!(admit_program(&vec![0; length]), "refused 2 at 0 0\n");
+    }
+    for length in [3_277, 3_280, 100_000] {
         assert_eq!(admit_program(&vec![0; length]), "refused 1 at 0 0\n");
     }
-    assert_eq!(run_admit(&vec![0; 2_256]), "refused 1 at 0 0\n");
+    assert_eq!(run_admit(&vec![0; 3_276]), "refused 2 at 0 0\n");
+    assert_eq!(run_admit(&vec![0; 3_280]), "refused 1 at 0 0\n");
 }
 
 #[test]
 fn admit_of_the_longest_sheet() {
     let streams = [(1_000_000_000, 1_000_000_000); 16];
     let sheet = bytes(&sheet(10_000, 10_000, &[(16, &streams[..]); 16]));
-    assert_eq!(sheet.len(), 2_252);
+    assert_eq!(sheet.len(), 3_276);
     let text = run_admit(&sheet);
     let lines: Vec<&str> = text.lines().collect();
     assert_eq!(lines.len(), 258);
@@ -113,10 +130,21 @@ fn replay_p9_to_the_byte() {
 #[test]
 fn replay_of_p9_with_the_deadline_of_p3() {
     // Stream 2 goes first now; what stream 3 does is the same.
-    let sheet = bytes(&sheet_a_with(&[(12, 37)]));
+    let sheet = bytes(&sheet_a_with(&[(13, 37)]));
     assert_eq!(
         replay_program(&sheet, &bytes(&SECOND_P9)),
         "release begin\n1 12\n2 0\n3 6\nturns 25 next 40\n"
+    );
+}
+
+#[test]
+fn replay_does_not_read_the_jitters() {
+    let sheet = bytes(&sheet_a_with(&[(11, 39), (14, 59), (17, 29)]));
+    assert_eq!(replay_program(&sheet, &bytes(&SECOND_P9)), REPLAYED_P9);
+    let bad = bytes(&sheet_a_with(&[(17, 30)]));
+    assert_eq!(
+        replay_program(&bad, &bytes(&SECOND_P9)),
+        "refused 5 at 2 1\n"
     );
 }
 
@@ -149,8 +177,12 @@ fn replay_judges_the_second_file_after_the_sheet() {
         assert_eq!(replay_program(&[1], &second), "refused 1 at 0 0\n");
     }
     assert_eq!(
-        replay_program(&vec![0; 2_256], &bytes(&SECOND_P9)),
+        replay_program(&vec![0; 3_280], &bytes(&SECOND_P9)),
         "refused 1 at 0 0\n"
+    );
+    assert_eq!(
+        replay_program(&vec![0; 3_276], &bytes(&SECOND_P9)),
+        "refused 2 at 0 0\n"
     );
 }
 

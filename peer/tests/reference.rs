@@ -17,45 +17,46 @@ fn least_common_multiple(one: u64, other: u64) -> u64 {
 }
 
 impl Plain {
-    /// Periods of the streams above, node and stream from 0.
-    fn above(&self, node: usize, stream: usize) -> Vec<u64> {
-        let streams = &self.nodes[node].1;
-        let others = (0..streams.len()).filter(|&other| ranks_above(streams, other, stream));
-        others.map(|other| streams[other].0).collect()
+    /// The streams above, node and stream from 0.
+    fn above(&self, node: usize, stream: usize) -> Vec<Stream> {
+        streams_above(&self.nodes[node].1, stream)
     }
 
-    /// Wait and J by the words of document 01, for J up to `most`, whatever
-    /// the deadline.
+    /// Wait and J by the words of document 01 and request Six, for J up to
+    /// `most`, whatever the deadline.
     fn literal(&self, node: usize, stream: usize, most: u64) -> Option<(u64, u64)> {
         let above = self.above(node, stream);
         let budget = self.nodes[node].0;
-        let releases = |window: u64| above.iter().map(|period| 1 + window / period).sum::<u64>();
+        let releases = |window: u64| releases(&above, window);
         let cycles = (1..=most).find(|j| releases(j * self.cycle - 1) < j * budget)?;
         let ahead = releases(cycles * self.cycle - 1) - (cycles - 1) * budget;
         Some((cycles * self.cycle - 1 + ahead * self.message, cycles))
     }
 
     /// A J up to which one must be found if there is one at all. H at
-    /// J × C − 1 is the sum of J × C / period, each rounded up, hence less
-    /// than J × (sum of C / period) + the number of streams above. If the sum
-    /// in brackets is below the budget, it is by at least 1 / (least common
-    /// multiple of the periods), and J of that multiple times the number of
-    /// streams serves; if not, none ever does.
+    /// J × C − 1 is the sum of (J × C + jitter) / period, each rounded up, and no
+    /// jitter is as long as its period, hence H is less than J × (sum of
+    /// C / period) + twice the number of streams above. If the sum in brackets
+    /// is below the budget, it is by at least 1 / (least common multiple of the
+    /// periods), and J of that multiple times twice the number of streams
+    /// serves; if not, none ever does.
     fn sure_bound(&self, node: usize, stream: usize) -> u64 {
         let above = self.above(node, stream);
-        let multiple = above.iter().copied().fold(1, least_common_multiple);
-        above.len() as u64 * multiple + 1
+        let periods = above.iter().map(|stream| stream.period);
+        let multiple = periods.fold(1, least_common_multiple);
+        2 * above.len() as u64 * multiple + 1
     }
 
-    /// Delivery for J by the words of request Four.
-    fn delivery(&self, node: usize, cycles: u64) -> u64 {
-        cycles * self.cycle - 1 + self.nodes[node].0 * self.message + self.slot
+    /// Delivery after the event for J, by the words of requests Four and Six.
+    fn delivery(&self, node: usize, stream: usize, cycles: u64) -> u64 {
+        let (budget, streams) = &self.nodes[node];
+        streams[stream].jitter + cycles * self.cycle - 1 + budget * self.message + self.slot
     }
 
     fn expected(&self, node: usize, stream: usize, most: u64) -> Answer {
-        let deadline = self.nodes[node].1[stream].1;
+        let deadline = self.nodes[node].1[stream].deadline;
         match self.literal(node, stream, most) {
-            Some((wait, cycles)) if self.delivery(node, cycles) <= deadline => {
+            Some((wait, cycles)) if self.delivery(node, stream, cycles) <= deadline => {
                 answer(0, wait as u32, cycles as u32)
             }
             _ => answer(7, node as u32 + 1, stream as u32 + 1),
@@ -65,6 +66,20 @@ impl Plain {
 
 /// How the deadlines of a small sheet go with its periods.
 const STYLES: u32 = 4;
+
+/// How the jitters of a small sheet go with its periods: none, all of one tick,
+/// all but one tick of the period, or some of each and more.
+const HABITS: u32 = 4;
+
+fn small_jitter(habit: u32, number: u32, place: u32, period: u32) -> u32 {
+    let longest = period - 1;
+    match habit {
+        0 => 0,
+        1 => longest.min(1),
+        2 => longest,
+        _ => [0, 1, longest, period / 2, 3][((number + 1) * (place + 2)) as usize % 5].min(longest),
+    }
+}
 
 /// Streams with these periods. Style 0 has deadlines like the periods and a
 /// last stream that has to wait long; the others have ties of deadlines, the
@@ -93,20 +108,24 @@ fn small_streams(periods: [u32; 3], number: u32, style: u32) -> Vec<(u32, u32)> 
 }
 
 /// Small sheets of one or two nodes, all combinations of a few numbers.
-fn small_sheets(style: u32) -> Vec<Vec<u32>> {
+fn small_sheets(style: u32, habit: u32) -> Vec<Vec<u32>> {
     let mut sheets = Vec::new();
     for number in 0..1_536u32 {
         let digit = |divisor: u32, base: u32| number / divisor % base;
         let (message, slot) = (1 + digit(1, 2), 1 + digit(2, 3));
         let (budget, other) = (1 + digit(6, 2), digit(12, 2));
         let periods = [2 + digit(24, 8), 3 + 2 * digit(192, 8), 7];
-        let all = small_streams(periods, number, style);
-        let rest = [(9, 9)];
-        let nodes: Vec<(u32, &[(u32, u32)])> = match other {
+        let all = small_streams(periods, number, style).into_iter();
+        let all = (0..).zip(all).map(|(place, (period, deadline))| {
+            [period, deadline, small_jitter(habit, number, place, period)]
+        });
+        let all: Vec<[u32; 3]> = all.collect();
+        let rest = [[9, 9, 0]];
+        let nodes: Vec<(u32, &[[u32; 3]])> = match other {
             0 => vec![(budget, &all)],
             _ => vec![(1, &rest), (budget, &all)],
         };
-        sheets.push(sheet(message, slot, &nodes));
+        sheets.push(jittery_sheet(message, slot, &nodes));
     }
     sheets
 }
@@ -120,9 +139,9 @@ struct Served {
     late: u32,
 }
 
-fn check_without_any_cut(style: u32) -> Served {
+fn check_without_any_cut(style: u32, habit: u32) -> Served {
     let mut served = Served::default();
-    for sheet in small_sheets(style) {
+    for sheet in small_sheets(style, habit) {
         let plain = plain(&sheet);
         let node = plain.nodes.len() - 1;
         for stream in 0..4 {
@@ -142,10 +161,15 @@ fn check_without_any_cut(style: u32) -> Served {
 
 #[test]
 fn listed_waits_of_small_sheets_without_any_cut() {
-    for style in 0..STYLES {
-        let served = check_without_any_cut(style);
-        let least = served.soon.min(served.long).min(served.late);
-        assert!(least > 100, "style {style}: {served:?}");
+    for (style, habit) in (0..STYLES).flat_map(|it| (0..HABITS).map(move |habit| (it, habit))) {
+        let served = check_without_any_cut(style, habit);
+        // With all but a tick of each period, all but the first styles' last
+        // streams are late.
+        let least = match habit {
+            2 => served.late,
+            _ => served.soon.min(served.long).min(served.late),
+        };
+        assert!(least > 100, "style {style}, habit {habit}: {served:?}");
     }
 }
 
@@ -155,16 +179,16 @@ fn listed_waits_of_small_sheets_without_any_cut() {
 fn small_sheets_have_ties_of_each_kind() {
     let mut levels = [0; 3];
     for streams in (1..STYLES)
-        .flat_map(small_sheets)
+        .flat_map(|style| small_sheets(style, 0))
         .map(|sheet| bodies(&sheet))
     {
         let streams = streams.last().unwrap();
         for (one, other) in (0..4).flat_map(|one| (0..one).map(move |other| (other, one))) {
             let (one, other) = (streams[one], streams[other]);
-            let against = (one.0 < other.0) == (one.1 > other.1);
-            match one.1 == other.1 {
-                false => levels[0] += u32::from(against && one.0 != other.0),
-                true if one.0 != other.0 => levels[1] += 1,
+            let against = (one[0] < other[0]) == (one[1] > other[1]);
+            match one[1] == other[1] {
+                false => levels[0] += u32::from(against && one[0] != other[0]),
+                true if one[0] != other[0] => levels[1] += 1,
                 true => levels[2] += 1,
             }
         }
@@ -189,7 +213,7 @@ fn questions_of_generated_cases() {
         // Past the deadline's last cycle no J can be in time.
         let plain = plain(&sheet);
         let (node, stream) = (node as usize - 1, stream as usize - 1);
-        let most = plain.nodes[node].1[stream].1 / plain.cycle + 1;
+        let most = plain.nodes[node].1[stream].deadline / plain.cycle + 1;
         assert_eq!(given, plain.expected(node, stream, most), "case {index}");
         asked += 1;
     }

@@ -70,7 +70,7 @@ fn short_contents() {
         assert_eq!(refused(&SHEET_A[..length]), (4, 0, 0));
     }
     // A wrong row does not show before the contents are whole.
-    assert_eq!(refused(&[2, 5, 1, 0, 99, 99, 13, 1]), (4, 0, 0));
+    assert_eq!(refused(&[2, 5, 1, 0, 99, 99, 15, 1]), (4, 0, 0));
     assert_eq!(refused(&[16, 1, 1]), (4, 0, 0));
 }
 
@@ -79,7 +79,7 @@ fn wrong_rows() {
     for word in [0, 8, 10, 36, u32::MAX] {
         assert_eq!(refused(&sheet_a_with(&[(3, word)])), (4, 1, 0));
     }
-    for word in [12, 14, 4, u32::MAX] {
+    for word in [13, 14, 16, 4, u32::MAX] {
         assert_eq!(refused(&sheet_a_with(&[(6, word)])), (4, 2, 0));
     }
     for word in [17, 1 << 31, u32::MAX] {
@@ -110,11 +110,12 @@ fn place_of_an_empty_body() {
     assert_eq!(check_sheet(&sheet), answer(0, 0, 0));
     assert_eq!(refused(&with(&sheet, &[(6, 0)])), (4, 2, 0));
     assert_eq!(refused(&with(&sheet, &[(6, 12)])), (4, 2, 0));
+    assert_eq!(refused(&with(&sheet, &[(6, 14)])), (4, 2, 0));
 }
 
 #[test]
 fn wrong_total_length() {
-    for length in 9..15 {
+    for length in 9..18 {
         assert_eq!(refused(&SHEET_A[..length]), (4, 0, 0));
     }
     for further in [1, 2, 600] {
@@ -127,29 +128,76 @@ fn wrong_total_length() {
 fn periods_and_deadlines() {
     for word in [0, TICKS + 1, u32::MAX] {
         assert_eq!(refused(&sheet_a_with(&[(9, word)])), (5, 1, 1));
-        assert_eq!(refused(&sheet_a_with(&[(11, word)])), (5, 1, 2));
-        assert_eq!(refused(&sheet_a_with(&[(13, word)])), (5, 2, 1));
+        assert_eq!(refused(&sheet_a_with(&[(12, word)])), (5, 1, 2));
+        assert_eq!(refused(&sheet_a_with(&[(15, word)])), (5, 2, 1));
     }
     for word in [0, 31, u32::MAX] {
-        assert_eq!(refused(&sheet_a_with(&[(14, word)])), (5, 2, 1));
+        assert_eq!(refused(&sheet_a_with(&[(16, word)])), (5, 2, 1));
     }
     assert_eq!(refused(&sheet_a_with(&[(9, 39)])), (5, 1, 1));
     let ends = sheet_a_with(&[
         (9, TICKS),
         (10, TICKS),
-        (11, 1),
         (12, 1),
-        (13, TICKS),
-        (14, 1),
+        (13, 1),
+        (15, TICKS),
+        (16, 1),
     ]);
     assert_eq!(check_sheet(&ends), answer(0, 0, 0));
+}
+
+/// From 0 to less than the period, whatever the deadline.
+#[test]
+fn jitters() {
+    for (place, period, refusal) in [
+        (11, 40, (5, 1, 1)),
+        (14, 60, (5, 1, 2)),
+        (17, 30, (5, 2, 1)),
+    ] {
+        for word in [period, period + 1, TICKS, TICKS + 1, u32::MAX] {
+            assert_eq!(refused(&sheet_a_with(&[(place, word)])), refusal);
+        }
+        for word in [0, 1, period - 1] {
+            let sheet = sheet_a_with(&[(place, word)]);
+            assert_eq!(check_sheet(&sheet), answer(0, 0, 0));
+        }
+    }
+    // A deadline of 20: the period of 30 is the bound.
+    for (word, expected) in [(19, 0), (20, 0), (21, 0), (29, 0), (30, 5)] {
+        let sheet = sheet_a_with(&[(16, 20), (17, word)]);
+        assert_eq!(check_sheet(&sheet).number, expected, "{word}");
+    }
+    // The ends of the range.
+    let longest = sheet_a_with(&[(9, TICKS), (11, TICKS - 1)]);
+    assert_eq!(check_sheet(&longest), answer(0, 0, 0));
+    assert_eq!(refused(&with(&longest, &[(11, TICKS)])), (5, 1, 1));
+    let shortest = sheet_a_with(&[(9, 1), (10, 1)]);
+    assert_eq!(check_sheet(&shortest), answer(0, 0, 0));
+    assert_eq!(refused(&with(&shortest, &[(11, 1)])), (5, 1, 1));
+    // A period that is too short for its jitter.
+    assert_eq!(
+        refused(&sheet_a_with(&[(9, 25), (10, 20), (11, 25)])),
+        (5, 1, 1)
+    );
+}
+
+/// Two words a stream, as it was before.
+#[test]
+fn the_old_layout() {
+    let old = [2, 5, 1, 9, 2, 1, 13, 1, 2, 40, 40, 60, 60, 30, 30];
+    assert_eq!(refused(&old), (4, 2, 0));
+    assert_eq!(refused(&[1, 5, 1, 6, 2, 1, 10, 10, 100, 100]), (4, 0, 0));
 }
 
 #[test]
 fn the_first_bad_stream_is_named() {
     // A bad deadline comes before the bad period of the next stream.
-    assert_eq!(refused(&sheet_a_with(&[(12, 0), (13, 0)])), (5, 1, 2));
-    assert_eq!(refused(&sheet_a_with(&[(10, 41), (11, 0)])), (5, 1, 1));
+    assert_eq!(refused(&sheet_a_with(&[(13, 0), (15, 0)])), (5, 1, 2));
+    assert_eq!(refused(&sheet_a_with(&[(10, 41), (12, 0)])), (5, 1, 1));
+    // So does a bad jitter.
+    assert_eq!(refused(&sheet_a_with(&[(11, 40), (12, 0)])), (5, 1, 1));
+    assert_eq!(refused(&sheet_a_with(&[(13, 61), (17, 30)])), (5, 1, 2));
+    assert_eq!(refused(&sheet_a_with(&[(14, 60), (17, 30)])), (5, 1, 2));
 }
 
 #[test]
@@ -163,7 +211,7 @@ fn earlier_numbers_go_first() {
 
 #[test]
 fn room_of_admit_goes_before_late() {
-    let late = sheet_a_with(&[(10, 30), (12, 37)]);
+    let late = sheet_a_with(&[(10, 30), (13, 37)]);
     for words in 0..3 {
         assert_eq!(admit(&late, &mut vec![OLD; words]), answer(6, 0, 0));
         let mut room = vec![OLD; words];
@@ -177,7 +225,7 @@ fn room_of_admit_goes_before_late() {
 #[test]
 fn the_first_late_stream_in_sheet_order_is_named() {
     // Both are late, and the second ranks above the first.
-    let sheet = [1, 5, 1, 6, 2, 1, 100, 10, 9, 9];
+    let sheet = sheet(5, 1, &[(1, &[(100, 10), (9, 9)])]);
     assert_admit_refused(&sheet, answer(7, 1, 1));
     assert_eq!(one_stream(&sheet, 1, 2), answer(7, 1, 2));
 }

@@ -39,7 +39,7 @@ fn nodes_without_streams_are_admitted() {
 fn sixteen_nodes_of_sixteen_streams() {
     let streams = [(1_000_000_000, 1_000_000_000); 16];
     let full = sheet(10_000, 10_000, &[(16, &streams[..]); 16]);
-    assert_eq!(full.len() * 4, 2_252);
+    assert_eq!(full.len() * 4, 3_276);
     let (given, waits) = admitted(&full, 256);
     assert_eq!(given, answer(0, 256, 2_720_000));
     for (stream, wait) in waits.iter().enumerate() {
@@ -68,6 +68,25 @@ fn sixteen_nodes_of_sixteen_streams_in_reverse() {
 }
 
 #[test]
+fn sixteen_nodes_of_sixteen_streams_with_jitter() {
+    // 2,889,999 ticks go by from queuing to delivery at most, which leaves
+    // 997,110,001 for the jitter.
+    let ticks = 1_000_000_000;
+    let longest = |jitter: u32| {
+        let streams = [[ticks, ticks, jitter]; 16];
+        jittery_sheet(10_000, 10_000, &[(16, &streams[..]); 16])
+    };
+    let (given, waits) = admitted(&longest(997_110_001), 256);
+    assert_eq!(given, answer(0, 256, 2_720_000));
+    for (stream, wait) in waits.iter().enumerate() {
+        assert_eq!(*wait, 2_719_999 + 10_000 * (stream as u32 % 16));
+    }
+    assert_admit_refused(&longest(997_110_002), answer(7, 1, 1));
+    assert_admit_refused(&longest(999_999_999), answer(7, 1, 1));
+    assert_admit_refused(&longest(1_000_000_000), answer(5, 1, 1));
+}
+
+#[test]
 fn full_sheet_with_budget_one_waits_sixteen_cycles() {
     let streams = [(100_000, 100_000); 16];
     let full = sheet(3, 2, &[(1, &streams[..]); 16]);
@@ -90,7 +109,8 @@ fn empty_log_counts_the_silent_turns() {
 #[test]
 fn figure_1_in_fifths_is_refused() {
     let sheet = [
-        3, 5, 1, 12, 3, 1, 18, 1, 1, 20, 1, 1, 20, 20, 65, 65, 67, 67, 26, 26, 35, 35,
+        3, 5, 1, 12, 3, 1, 21, 1, 1, 24, 1, 1, 20, 20, 0, 65, 65, 0, 67, 67, 0, 26, 26, 0, 35, 35,
+        0,
     ];
     assert_admit_refused(&sheet, answer(7, 1, 1));
     assert_eq!(check_sheet(&sheet), answer(0, 0, 0));

@@ -7,7 +7,7 @@ use std::collections::BTreeSet;
 
 use common::*;
 use peer::generate::{named_tables, tables_case};
-use peer::stats::gather_tables;
+use peer::stats::{gather_tables, kinds_of_jitters, JITTER_NAMES};
 use peer::write_sheet;
 
 #[test]
@@ -29,12 +29,13 @@ fn every_answer_is_frequent() {
         let lengths = ["write 4 too few budgets", "write 4 too many budgets"];
         least(&figures, &lengths, 15);
         let lengths = ["write 4 number of periods", "write 4 number of deadlines"];
-        least(&figures, &lengths, 15);
-        least(&figures, &["write 4 number of both"], 15);
+        least(&figures, &lengths, 8);
+        least(&figures, &["write 4 number of jitters"], 8);
+        least(&figures, &["write 4 number of several"], 15);
     }
 }
 
-const CAUSES: [&str; 16] = [
+const CAUSES: [&str; 18] = [
     "2 low",
     "2 high",
     "3 message low",
@@ -50,6 +51,8 @@ const CAUSES: [&str; 16] = [
     "5 period high",
     "5 deadline low",
     "5 deadline above period",
+    "5 jitter at period",
+    "5 jitter above period",
     "6 by one word",
 ];
 
@@ -107,6 +110,12 @@ fn sheets_have_all_sizes_and_the_ends_of_all_ranges() {
             least(&figures, &[&format!("write 0, {ticks} {end}")], 1_000);
         }
     }
+    for (name, share) in JITTER_NAMES
+        .into_iter()
+        .zip([1_000, 800, 1_000, 900, 500, 400])
+    {
+        least(&figures, &[&format!("write 0, {name}")], share);
+    }
 }
 
 /// And most have no word that the sheet has, so that a word left out shows.
@@ -128,16 +137,21 @@ fn named_tables_have_names_and_answers_of_their_own() {
     let names: BTreeSet<_> = cases.iter().map(|case| case.0).collect();
     assert_eq!(names.len(), cases.len());
     let expected = [
-        ("two nodes", answer(0, 15, 17)),
-        ("two nodes, exact room", answer(0, 15, 17)),
+        ("two nodes", answer(0, 18, 17)),
+        ("two nodes, exact room", answer(0, 18, 17)),
+        ("two nodes without jitter", answer(0, 18, 17)),
+        (
+            "two nodes with jitters next to the deadlines",
+            answer(0, 18, 17),
+        ),
         ("one node without streams", answer(0, 6, 2)),
         ("sixteen nodes without streams", answer(0, 51, 2_720_000)),
-        ("one full node", answer(0, 38, 170_000)),
-        ("streams in the last node alone", answer(0, 57, 696)),
-        ("a full sheet of the least words", answer(0, 563, 32)),
+        ("one full node", answer(0, 54, 170_000)),
+        ("streams in the last node alone", answer(0, 60, 696)),
+        ("a full sheet of the least words", answer(0, 819, 32)),
         (
             "a full sheet of the greatest words",
-            answer(0, 563, 2_720_000),
+            answer(0, 819, 2_720_000),
         ),
         ("nothing at all", answer(2, 0, 0)),
         ("no node, all else right", answer(2, 0, 0)),
@@ -146,9 +160,14 @@ fn named_tables_have_names_and_answers_of_their_own() {
         ("a hundred thousand budgets", answer(4, 0, 0)),
         ("a hundred thousand periods", answer(4, 0, 0)),
         ("a hundred thousand deadlines", answer(4, 0, 0)),
-        ("a room of a hundred thousand words", answer(0, 15, 17)),
+        ("a hundred thousand jitters", answer(4, 0, 0)),
+        ("a room of a hundred thousand words", answer(0, 18, 17)),
         ("no deadlines but twice the periods", answer(4, 0, 0)),
+        ("no jitters", answer(4, 0, 0)),
+        ("no jitters but twice the deadlines", answer(4, 0, 0)),
+        ("one jitter short", answer(4, 0, 0)),
         ("a full sheet, room one word short", answer(6, 0, 0)),
+        ("a full sheet, room for two words a stream", answer(6, 0, 0)),
         ("all counts the greatest word", answer(4, 1, 0)),
         ("counts that come round to the right sum", answer(4, 1, 0)),
         (
@@ -160,18 +179,30 @@ fn named_tables_have_names_and_answers_of_their_own() {
         ("last period past the end", answer(5, 16, 16)),
         ("last deadline 0", answer(5, 16, 16)),
         ("last deadline above the period", answer(5, 16, 16)),
+        ("last jitter below the period", answer(0, 819, 2_720_000)),
+        ("last jitter at the period", answer(5, 16, 16)),
+        ("last jitter above the period", answer(5, 16, 16)),
+        ("last jitter the greatest word", answer(5, 16, 16)),
         ("a bad stream after empty nodes", answer(5, 16, 1)),
         ("everything wrong", answer(2, 0, 0)),
         ("wrong from the ticks on", answer(3, 0, 0)),
         ("wrong from the length of the budgets on", answer(4, 0, 0)),
         ("wrong from the rows on", answer(4, 2, 0)),
         ("wrong from the length of the deadlines on", answer(4, 0, 0)),
+        ("wrong from the length of the jitters on", answer(4, 0, 0)),
         ("wrong from the streams on", answer(5, 1, 1)),
+        ("wrong from the jitters on", answer(5, 1, 1)),
         ("wrong in the room alone", answer(6, 0, 0)),
     ];
     assert_eq!(expected.len(), cases.len());
+    let mut met = BTreeSet::new();
     for (name, expected) in expected {
-        let given = written_by(write_sheet, &named_tables_case(name));
+        let case = named_tables_case(name);
+        let given = written_by(write_sheet, &case);
         assert_eq!(given.0, expected, "{name}");
+        if expected.number == 0 {
+            met.extend(kinds_of_jitters(&case.tables));
+        }
     }
+    assert_eq!(met, BTreeSet::from(JITTER_NAMES));
 }

@@ -30,17 +30,21 @@ fn literal_answer(tables: &Tables, room: usize) -> Answer {
     if tables.periods.len() != streams || tables.deadlines.len() != streams {
         return answer(4, 0, 0);
     }
+    if tables.jitters.len() != streams {
+        return answer(4, 0, 0);
+    }
     let mut number = 0;
     for node in 0..nodes {
         for stream in 0..tables.counts[node] {
             let (period, deadline) = (tables.periods[number], tables.deadlines[number]);
-            if outside(period, TICKS) || outside(deadline, period) {
+            let jitter = tables.jitters[number];
+            if outside(period, TICKS) || outside(deadline, period) || jitter >= period {
                 return answer(5, node as u32 + 1, stream + 1);
             }
             number += 1;
         }
     }
-    let words = 3 + 3 * nodes + 2 * streams;
+    let words = 3 + 3 * nodes + 3 * streams;
     if room < words {
         return answer(6, 0, 0);
     }
@@ -61,14 +65,21 @@ fn literal_word(tables: &Tables, place: usize) -> u32 {
             let node = place / 3 - 1;
             let before: u32 = tables.counts[..node].iter().sum();
             let row = [
-                bodies as u32 + 2 * before,
+                bodies as u32 + 3 * before,
                 tables.counts[node],
                 tables.budgets[node],
             ];
             row[place % 3]
         }
-        _ if (place - bodies).is_multiple_of(2) => tables.periods[(place - bodies) / 2],
-        _ => tables.deadlines[(place - bodies) / 2],
+        _ => {
+            let stream = (place - bodies) / 3;
+            let words = [
+                tables.periods[stream],
+                tables.deadlines[stream],
+                tables.jitters[stream],
+            ];
+            words[(place - bodies) % 3]
+        }
     }
 }
 

@@ -4,7 +4,7 @@
 use wistorvan::{admit, begun, check_sheet, one_stream, replay, step};
 use wistorvan::{Bus, Reason, Refusal, MAX_STREAMS, NOT_BEGUN};
 
-const SHEET_A: [u32; 15] = [2, 5, 1, 9, 2, 1, 13, 1, 2, 40, 40, 60, 60, 30, 30];
+const SHEET_A: [u32; 18] = [2, 5, 1, 9, 2, 1, 15, 1, 2, 40, 40, 0, 60, 60, 0, 30, 30, 0];
 const LOG: [u32; 6] = [0, 1, 0, 2, 1, 3];
 
 fn show(what: &str, words: &[u32]) {
@@ -63,7 +63,7 @@ fn be_refused() {
 
     let mut sheet = SHEET_A;
     sheet[10] = 38;
-    sheet[12] = 38;
+    sheet[13] = 38;
     let late = admit(&sheet, &mut [0; MAX_STREAMS]).expect_err("the stream is late");
     assert_eq!(late.reason(), Reason::Late);
     println!("deadlines of 38: {late}");

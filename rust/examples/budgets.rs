@@ -7,18 +7,19 @@ use wistorvan::{admit, find_budgets, Refusal, MAX_NODES, MAX_STREAMS};
 /// Three nodes; a message takes 5 ticks, a protocol slot 1. Then a row for each
 /// node: place of its body, streams, budget.
 #[rustfmt::skip]
-const LINE: [u32; 28] = [
+const LINE: [u32; 36] = [
     3, 5, 1,
     12, 4, 2, // line controller
-    20, 2, 1, // burner
-    24, 2, 4, // recorder
-    // Belt speed, damper command, burner shut-off, fan speed: period, deadline.
-    200, 59, 500, 69, 1000, 49, 400, 69,
-    250, 39, 1000, 49, // flame signal, gas pressure
-    1000, 1000, 10000, 10000, // recorder block, recorder state
+    24, 2, 1, // burner
+    30, 2, 4, // recorder
+    // Belt speed, damper command, burner shut-off, fan speed: period, deadline,
+    // jitter.
+    200, 59, 0, 500, 69, 0, 1000, 49, 0, 400, 69, 0,
+    250, 39, 0, 1000, 49, 0, // flame signal, gas pressure
+    1000, 1000, 0, 10000, 10000, 0, // recorder block, recorder state
 ];
 const NODES: usize = 3;
-const SHUT_OFF_DEADLINE: usize = 17;
+const SHUT_OFF_DEADLINE: usize = 19;
 
 /// Where the budget of a node stands, the first node being 0.
 fn budget_at(node: usize) -> usize {

@@ -1,6 +1,6 @@
 //! Makes sheets from tables in Rust and asks whether each is admitted: sheet A,
-//! sheet A with deadlines that cannot be met, and tables that make no sheet. It
-//! prints what examples/make.c prints.
+//! sheet A with deadlines that cannot be met, sheet A with streams that queue
+//! late, and tables that make no sheet. It prints what examples/make.c prints.
 
 use wistorvan::{admit, write_sheet, Refusal, Tables, LONGEST_SHEET, MAX_STREAMS};
 
@@ -13,6 +13,7 @@ const LINE: Tables = Tables {
     budgets: &[1, 2],
     periods: &[40, 60, 30],
     deadlines: &[40, 60, 30],
+    jitters: &[0, 0, 0],
 };
 
 fn shown(words: &[u32]) -> String {
@@ -34,13 +35,24 @@ fn make_and_ask(tables: &Tables) -> Result<(), Refusal> {
 }
 
 fn main() {
-    for (what, deadlines) in [
-        ("sheet A from its tables", &[40, 60, 30]),
-        ("both deadlines of node 1 cut to 38", &[38, 38, 30]),
-        ("a deadline of 61 for a period of 60", &[40, 61, 30]),
+    let due = |deadlines| Tables { deadlines, ..LINE };
+    let late = |jitters| Tables { jitters, ..LINE };
+    for (what, tables) in [
+        ("sheet A from its tables", LINE),
+        ("both deadlines of node 1 cut to 38", due(&[38, 38, 30])),
+        (
+            "stream 1 of node 1 queued up to 7 ticks after its event: stream 2 may wait for two of it",
+            late(&[7, 0, 0]),
+        ),
+        (
+            "the stream of node 2 queued up to 4 ticks after its event, from which its deadline runs",
+            late(&[0, 0, 4]),
+        ),
+        ("a deadline of 61 for a period of 60", due(&[40, 61, 30])),
+        ("a jitter of 40 for a period of 40", late(&[40, 0, 0])),
     ] {
         println!("{what}");
-        if let Err(refusal) = make_and_ask(&Tables { deadlines, ..LINE }) {
+        if let Err(refusal) = make_and_ask(&tables) {
             println!("  {refusal}");
         }
     }

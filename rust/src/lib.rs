@@ -3,13 +3,14 @@
 //!
 //! A sheet describes a bus and its message streams. The planner says whether
 //! every stream meets its deadline, lists each stream's longest wait, and
-//! replays a log of releases:
+//! replays a log of releases (a release is the queuing of a message):
 //!
 //! ```
 //! # fn main() -> Result<(), wistorvan::Refusal> {
 //! // Two nodes; a message takes 5 ticks, a protocol slot 1. Node 1 has two
-//! // streams and a budget of 1, node 2 one stream and a budget of 2.
-//! let sheet = [2, 5, 1, 9, 2, 1, 13, 1, 2, 40, 40, 60, 60, 30, 30];
+//! // streams and a budget of 1, node 2 one stream and a budget of 2. A stream
+//! // has a least period, a deadline and a jitter, which is 0 here.
+//! let sheet = [2, 5, 1, 9, 2, 1, 15, 1, 2, 40, 40, 0, 60, 60, 0, 30, 30, 0];
 //!
 //! let mut room = [0; wistorvan::MAX_STREAMS];
 //! let admission = wistorvan::admit(&sheet, &mut room)?;
@@ -47,7 +48,7 @@ pub use refusal::{Reason, Refusal};
 /// ```
 /// // Before horizon 0 no turn starts.
 /// let mut room = [7; 1];
-/// let replayed = wistorvan::replay(&[1, 5, 1, 6, 1, 1, 20, 20], &[0, 1], 0, &mut room).unwrap();
+/// let replayed = wistorvan::replay(&[1, 5, 1, 6, 1, 1, 20, 20, 0], &[0, 1], 0, &mut room).unwrap();
 /// assert_eq!(replayed.begins, [wistorvan::NOT_BEGUN]);
 /// ```
 pub const NOT_BEGUN: u32 = 4294967295;
@@ -57,7 +58,7 @@ pub const NOT_BEGUN: u32 = 4294967295;
 ///
 /// ```
 /// let mut room = [0; wistorvan::MAX_NODES];
-/// assert!(wistorvan::find_budgets(&[1, 5, 1, 6, 1, 1, 20, 20], &mut room).is_ok());
+/// assert!(wistorvan::find_budgets(&[1, 5, 1, 6, 1, 1, 20, 20, 0], &mut room).is_ok());
 /// ```
 pub const MAX_NODES: usize = 16;
 
@@ -66,7 +67,7 @@ pub const MAX_NODES: usize = 16;
 ///
 /// ```
 /// let mut room = [0; wistorvan::MAX_STREAMS];
-/// assert!(wistorvan::admit(&[1, 5, 1, 6, 1, 1, 20, 20], &mut room).is_ok());
+/// assert!(wistorvan::admit(&[1, 5, 1, 6, 1, 1, 20, 20, 0], &mut room).is_ok());
 /// ```
 pub const MAX_STREAMS: usize = 256;
 
@@ -75,7 +76,7 @@ pub const MAX_STREAMS: usize = 256;
 ///
 /// ```
 /// let mut room = [0; wistorvan::MAX_RELEASES];
-/// assert!(wistorvan::replay(&[1, 5, 1, 6, 1, 1, 20, 20], &[2, 1], 4, &mut room).is_ok());
+/// assert!(wistorvan::replay(&[1, 5, 1, 6, 1, 1, 20, 20, 0], &[2, 1], 4, &mut room).is_ok());
 /// ```
 pub const MAX_RELEASES: usize = 4096;
 
@@ -92,11 +93,12 @@ pub const MAX_RELEASES: usize = 4096;
 ///     budgets: &[16; 16],
 ///     periods: &[10_000; MAX_STREAMS],
 ///     deadlines: &[10_000; MAX_STREAMS],
+///     jitters: &[50; MAX_STREAMS],
 /// };
 /// let mut room = [0; LONGEST_SHEET];
 /// assert_eq!(write_sheet(&most, &mut room).unwrap().sheet.len(), LONGEST_SHEET);
 /// ```
-pub const LONGEST_SHEET: usize = 563;
+pub const LONGEST_SHEET: usize = 819;
 
 /// The begin tick that a word of a room stands for, if the release has begun.
 ///
@@ -159,6 +161,7 @@ impl Bus {
 ///     budgets: &[1, 2],
 ///     periods: &[40, 60, 30],
 ///     deadlines: &[40, 60, 30],
+///     jitters: &[0, 0, 0],
 /// };
 /// // The same line with a shorter deadline of node 1's second stream.
 /// let changed = Tables { deadlines: &[40, 37, 30], ..line };
@@ -178,28 +181,32 @@ pub struct Tables<'t> {
     /// The least period of each stream, node by node, 1 to 1,000,000,000: as
     /// many words as the sum of `counts`.
     pub periods: &'t [u32],
-    /// The deadline of each stream, 1 to its period: as many words as
-    /// `periods`.
+    /// The deadline of each stream, counted from the event of a message, 1 to
+    /// its period: as many words as `periods`.
     pub deadlines: &'t [u32],
+    /// The jitter of each stream, how many ticks after its event a message may
+    /// be queued, 0 to less than its period: as many words as `periods`.
+    pub jitters: &'t [u32],
 }
 
 /// What [`one_stream`] answers.
 ///
 /// ```
 /// // One node with a budget of 1 and one stream: full cycle 6.
-/// let listed = wistorvan::one_stream(&[1, 5, 1, 6, 1, 1, 20, 20], 1, 1).unwrap();
+/// let listed = wistorvan::one_stream(&[1, 5, 1, 6, 1, 1, 20, 20, 0], 1, 1).unwrap();
 /// assert_eq!((listed.wait, listed.cycles), (5, 1));
 /// ```
 #[derive(Clone, Copy, PartialEq, Eq, Hash, Debug)]
 pub struct ListedWait {
-    /// The listed wait, in ticks from release to begin: no message of the
+    /// The listed wait, in ticks from queuing to begin: no message of the
     /// stream waits longer, if it and those ranked above it in its node keep
-    /// their least periods.
+    /// their least periods and jitters: each has events at least a period
+    /// apart, and queues each message 0 to jitter ticks after its event.
     pub wait: u32,
     /// J: the fewest full cycles whose turns take more messages than can have
     /// come ahead of it by then. Each message is delivered at most
-    /// J × C − 1 + budget × TMS + TPR ticks after its release, under the same
-    /// premise, and that is at most its deadline.
+    /// jitter + J × C − 1 + budget × TMS + TPR ticks after its event, under the
+    /// same premise, and that is at most its deadline.
     pub cycles: u32,
 }
 
@@ -207,7 +214,7 @@ pub struct ListedWait {
 ///
 /// ```
 /// let mut room = [0; 1];
-/// let admission = wistorvan::admit(&[1, 5, 1, 6, 1, 1, 20, 20], &mut room).unwrap();
+/// let admission = wistorvan::admit(&[1, 5, 1, 6, 1, 1, 20, 20, 0], &mut room).unwrap();
 /// assert_eq!((admission.waits.len(), admission.cycle), (1, 6));
 /// ```
 #[derive(Clone, Copy, PartialEq, Eq, Hash, Debug)]
@@ -224,7 +231,7 @@ pub struct Admission<'r> {
 /// ```
 /// // One release at tick 2, during the third of the idle bus's turns.
 /// let mut room = [0; 1];
-/// let replay = wistorvan::replay(&[1, 5, 1, 6, 1, 1, 20, 20], &[2, 1], 4, &mut room).unwrap();
+/// let replay = wistorvan::replay(&[1, 5, 1, 6, 1, 1, 20, 20, 0], &[2, 1], 4, &mut room).unwrap();
 /// assert_eq!((replay.begins[0], replay.turns, replay.next), (2, 3, 8));
 /// ```
 #[derive(Clone, Copy, PartialEq, Eq, Hash, Debug)]
@@ -245,7 +252,7 @@ pub struct Replay<'r> {
 ///
 /// // Nothing is released: the turn is one slot long.
 /// let mut bus = Bus::START;
-/// let step = step(&[1, 5, 1, 6, 1, 1, 20, 20], &[], &mut bus, &mut []).unwrap();
+/// let step = step(&[1, 5, 1, 6, 1, 1, 20, 20, 0], &[], &mut bus, &mut []).unwrap();
 /// assert_eq!((step.taken, step.next), (0, 1));
 /// ```
 #[derive(Clone, Copy, PartialEq, Eq, Hash, Debug)]
@@ -269,6 +276,7 @@ pub struct Step {
 ///     budgets: &[2],
 ///     periods: &[],
 ///     deadlines: &[],
+///     jitters: &[],
 /// };
 /// let mut room = [0; 6];
 /// let written = write_sheet(&tables, &mut room).unwrap();
@@ -289,7 +297,7 @@ pub struct Written<'r> {
 ///
 /// // The sheet has a budget of 3; 1 is enough.
 /// let mut room = [0; MAX_NODES];
-/// let found = find_budgets(&[1, 5, 1, 6, 1, 3, 20, 20], &mut room).unwrap();
+/// let found = find_budgets(&[1, 5, 1, 6, 1, 3, 20, 20, 0], &mut room).unwrap();
 /// assert_eq!((found.row, found.sum, found.cycle), (&[1][..], 1, 6));
 /// ```
 #[derive(Clone, Copy, PartialEq, Eq, Hash, Debug)]
@@ -313,9 +321,9 @@ pub struct Budgets<'r> {
 /// ```
 /// use wistorvan::{check_sheet, Reason};
 ///
-/// assert!(check_sheet(&[1, 5, 1, 6, 1, 1, 20, 20]).is_ok());
+/// assert!(check_sheet(&[1, 5, 1, 6, 1, 1, 20, 20, 0]).is_ok());
 /// // A deadline longer than its period.
-/// let refusal = check_sheet(&[1, 5, 1, 6, 1, 1, 10, 11]).unwrap_err();
+/// let refusal = check_sheet(&[1, 5, 1, 6, 1, 1, 10, 11, 0]).unwrap_err();
 /// assert_eq!((refusal.reason(), refusal.place()), (Reason::BadStream, (1, 1)));
 /// ```
 pub fn check_sheet(sheet: &[u32]) -> Result<(), Refusal> {
@@ -332,7 +340,7 @@ pub fn check_sheet(sheet: &[u32]) -> Result<(), Refusal> {
 /// ```
 /// use wistorvan::{one_stream, Reason};
 ///
-/// let sheet = [2, 5, 1, 9, 2, 1, 13, 1, 2, 40, 40, 60, 60, 30, 30];
+/// let sheet = [2, 5, 1, 9, 2, 1, 15, 1, 2, 40, 40, 0, 60, 60, 0, 30, 30, 0];
 /// assert_eq!(one_stream(&sheet, 1, 2).unwrap().wait, 33);
 /// let refusal = one_stream(&sheet, 2, 2).unwrap_err();
 /// assert_eq!((refusal.reason(), refusal.place()), (Reason::NoSuchStream, (2, 2)));
@@ -354,12 +362,12 @@ pub fn one_stream(sheet: &[u32], node: u32, stream: u32) -> Result<ListedWait, R
 /// ```
 /// use wistorvan::{admit, Reason, MAX_STREAMS};
 ///
-/// let mut sheet = [2, 5, 1, 9, 2, 1, 13, 1, 2, 40, 40, 60, 60, 30, 30];
+/// let mut sheet = [2, 5, 1, 9, 2, 1, 15, 1, 2, 40, 40, 0, 60, 60, 0, 30, 30, 0];
 /// let mut room = [0; MAX_STREAMS];
 /// assert_eq!(admit(&sheet, &mut room).unwrap().waits, [16, 33, 16]);
 /// // The deadlines of node 1: the shorter period goes first, and stream 2 is late.
 /// sheet[10] = 38;
-/// sheet[12] = 38;
+/// sheet[13] = 38;
 /// let refusal = admit(&sheet, &mut room).unwrap_err();
 /// assert_eq!((refusal.reason(), refusal.place()), (Reason::Late, (1, 2)));
 /// ```
@@ -383,8 +391,9 @@ pub fn admit<'r>(sheet: &[u32], room: &'r mut [u32]) -> Result<Admission<'r>, Re
 /// ```
 /// use wistorvan::{begun, replay, Reason};
 ///
-/// let sheet = [2, 5, 1, 9, 2, 1, 13, 1, 2, 40, 40, 60, 60, 30, 30];
-/// // Two words a release: its tick, and its stream by running number.
+/// let sheet = [2, 5, 1, 9, 2, 1, 15, 1, 2, 40, 40, 0, 60, 60, 0, 30, 30, 0];
+/// // Two words a release: the tick at which it is queued, and its stream by
+/// // running number.
 /// let log = [0, 1, 0, 2, 1, 3];
 /// let mut room = [0; 3];
 /// let replayed = replay(&sheet, &log, 12, &mut room).unwrap();
@@ -422,7 +431,7 @@ pub fn replay<'r>(
 /// use wistorvan::{step, Bus, Reason, NOT_BEGUN};
 ///
 /// # fn main() -> Result<(), wistorvan::Refusal> {
-/// let sheet = [2, 5, 1, 9, 2, 1, 13, 1, 2, 40, 40, 60, 60, 30, 30];
+/// let sheet = [2, 5, 1, 9, 2, 1, 15, 1, 2, 40, 40, 0, 60, 60, 0, 30, 30, 0];
 /// let log = [0, 1, 0, 2, 1, 3];
 /// let (mut bus, mut begins) = (Bus::START, [NOT_BEGUN; 3]);
 /// while bus.tick < 13 {
@@ -462,12 +471,19 @@ pub fn step(sheet: &[u32], log: &[u32], bus: &mut Bus, room: &mut [u32]) -> Resu
 ///     budgets: &[1, 2],
 ///     periods: &[40, 60, 30],
 ///     deadlines: &[40, 60, 30],
+///     jitters: &[0, 0, 0],
 /// };
 /// let mut room = [0; LONGEST_SHEET];
 /// let written = write_sheet(&line, &mut room)?;
-/// assert_eq!(written.sheet, [2, 5, 1, 9, 2, 1, 13, 1, 2, 40, 40, 60, 60, 30, 30]);
+/// assert_eq!(written.sheet, [2, 5, 1, 9, 2, 1, 15, 1, 2, 40, 40, 0, 60, 60, 0, 30, 30, 0]);
 /// assert_eq!(written.cycle, 17);
 /// assert_eq!(admit(written.sheet, &mut [0; MAX_STREAMS])?.waits, [16, 33, 16]);
+///
+/// // If stream 1 of node 1 queues up to 7 ticks late, two of its messages can
+/// // come before one of stream 2.
+/// let late = Tables { jitters: &[7, 0, 0], ..line };
+/// let written = write_sheet(&late, &mut room)?;
+/// assert_eq!(admit(written.sheet, &mut [0; MAX_STREAMS])?.waits, [16, 50, 16]);
 ///
 /// // A deadline longer than its period: stream 2 of node 1.
 /// let wrong = Tables { deadlines: &[40, 61, 30], ..line };
@@ -502,7 +518,7 @@ pub fn write_sheet<'r>(tables: &Tables<'_>, room: &'r mut [u32]) -> Result<Writt
 /// # fn main() -> Result<(), wistorvan::Refusal> {
 /// // One node with two streams, each due within 15 ticks. A message takes 1
 /// // tick and a slot 5; with one message a turn the second stream is late.
-/// let mut sheet = [1, 1, 5, 6, 2, 1, 50, 15, 50, 15];
+/// let mut sheet = [1, 1, 5, 6, 2, 1, 50, 15, 0, 50, 15, 0];
 /// let late = admit(&sheet, &mut [0; MAX_STREAMS]).unwrap_err();
 /// assert_eq!((late.reason(), late.place()), (Reason::Late, (1, 2)));
 ///

@@ -87,6 +87,8 @@ mod linked {
             periods_words: usize,
             deadlines: *const u32,
             deadlines_words: usize,
+            jitters: *const u32,
+            jitters_words: usize,
             room: *mut u32,
             room_words: usize,
         ) -> Answer;
@@ -106,7 +108,7 @@ mod linked {
 /// [`crate::check_sheet`]: 0 0 0 for a valid sheet.
 ///
 /// ```
-/// let answer = wistorvan::raw::check_sheet(&[1, 5, 1, 6, 1, 1, 20, 20]);
+/// let answer = wistorvan::raw::check_sheet(&[1, 5, 1, 6, 1, 1, 20, 20, 0]);
 /// assert_eq!(answer.number, 0);
 /// ```
 #[must_use]
@@ -117,7 +119,7 @@ pub fn check_sheet(sheet: &[u32]) -> Answer {
 /// [`crate::one_stream`]: the listed wait and J.
 ///
 /// ```
-/// let answer = wistorvan::raw::one_stream(&[1, 5, 1, 6, 1, 1, 20, 20], 1, 1);
+/// let answer = wistorvan::raw::one_stream(&[1, 5, 1, 6, 1, 1, 20, 20, 0], 1, 1);
 /// assert_eq!((answer.number, answer.second, answer.third), (0, 5, 1));
 /// ```
 #[must_use]
@@ -130,7 +132,7 @@ pub fn one_stream(sheet: &[u32], node: u32, stream: u32) -> Answer {
 ///
 /// ```
 /// let mut room = [0; 1];
-/// let answer = wistorvan::raw::admit(&[1, 5, 1, 6, 1, 1, 20, 20], &mut room);
+/// let answer = wistorvan::raw::admit(&[1, 5, 1, 6, 1, 1, 20, 20, 0], &mut room);
 /// assert_eq!((answer.number, answer.second, answer.third), (0, 1, 6));
 /// assert_eq!(room, [5]);
 /// ```
@@ -144,7 +146,7 @@ pub fn admit(sheet: &[u32], room: &mut [u32]) -> Answer {
 ///
 /// ```
 /// let mut room = [0; 1];
-/// let answer = wistorvan::raw::replay(&[1, 5, 1, 6, 1, 1, 20, 20], &[2, 1], 4, &mut room);
+/// let answer = wistorvan::raw::replay(&[1, 5, 1, 6, 1, 1, 20, 20, 0], &[2, 1], 4, &mut room);
 /// assert_eq!((answer.number, answer.second, answer.third), (0, 3, 8));
 /// assert_eq!(room, [2]);
 /// ```
@@ -169,7 +171,7 @@ pub fn replay(sheet: &[u32], log: &[u32], horizon: u32, room: &mut [u32]) -> Ans
 /// use wistorvan::{raw, Bus, NOT_BEGUN};
 ///
 /// let (mut bus, mut room) = (Bus::START, [NOT_BEGUN; 1]);
-/// let answer = raw::step(&[1, 5, 1, 6, 1, 1, 20, 20], &[0, 1], &mut bus, &mut room);
+/// let answer = raw::step(&[1, 5, 1, 6, 1, 1, 20, 20, 0], &[0, 1], &mut bus, &mut room);
 /// assert_eq!((answer.number, answer.second, answer.third), (0, 1, 6));
 /// assert_eq!((room, bus.tick, bus.turns), ([0], 6, 1));
 /// ```
@@ -201,11 +203,12 @@ pub fn step(sheet: &[u32], log: &[u32], bus: &mut Bus, room: &mut [u32]) -> Answ
 ///     budgets: &[1],
 ///     periods: &[10],
 ///     deadlines: &[9],
+///     jitters: &[2],
 /// };
-/// let mut room = [0; 8];
+/// let mut room = [0; 9];
 /// let answer = raw::write_sheet(&tables, &mut room);
-/// assert_eq!((answer.number, answer.second, answer.third), (0, 8, 6));
-/// assert_eq!(room, [1, 5, 1, 6, 1, 1, 10, 9]);
+/// assert_eq!((answer.number, answer.second, answer.third), (0, 9, 6));
+/// assert_eq!(room, [1, 5, 1, 6, 1, 1, 10, 9, 2]);
 /// ```
 #[must_use]
 pub fn write_sheet(tables: &Tables<'_>, room: &mut [u32]) -> Answer {
@@ -221,6 +224,8 @@ pub fn write_sheet(tables: &Tables<'_>, room: &mut [u32]) -> Answer {
             tables.periods.len(),
             tables.deadlines.as_ptr(),
             tables.deadlines.len(),
+            tables.jitters.as_ptr(),
+            tables.jitters.len(),
             room.as_mut_ptr(),
             room.len(),
         )
@@ -232,7 +237,7 @@ pub fn write_sheet(tables: &Tables<'_>, room: &mut [u32]) -> Answer {
 ///
 /// ```
 /// let mut room = [7; 17];
-/// let answer = wistorvan::raw::find_budgets(&[1, 5, 1, 6, 1, 3, 20, 20], &mut room);
+/// let answer = wistorvan::raw::find_budgets(&[1, 5, 1, 6, 1, 3, 20, 20, 0], &mut room);
 /// assert_eq!((answer.number, answer.second, answer.third), (0, 1, 6));
 /// assert_eq!(room, [1, 0, 0, 0, 0, 0, 0, 0, 0, 0, 0, 0, 0, 0, 0, 0, 7]);
 /// ```

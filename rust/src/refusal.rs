@@ -11,7 +11,7 @@ use std::fmt;
 /// ```
 /// use wistorvan::{one_stream, Reason};
 ///
-/// let sheet = [1, 5, 1, 6, 1, 1, 10, 9];
+/// let sheet = [1, 5, 1, 6, 1, 1, 10, 9, 0];
 /// let advice = match one_stream(&sheet, 1, 1).unwrap_err().reason() {
 ///     Reason::Late => "a longer deadline, a larger budget, or fewer messages",
 ///     Reason::NoSuchStream => "nodes and streams count from 1",
@@ -33,19 +33,21 @@ pub enum Reason {
     /// tables of budgets and counts (write sheet) differ in length: place
     /// 0, 0. Then, node by node, a row has a wrong place of the body, more
     /// than 16 streams or a budget that is not 1 to 16: place node, 0. Then,
-    /// the total length is wrong, or the tables of periods and deadlines
-    /// (write sheet) do not have a word for each stream counted: place 0, 0.
+    /// the total length is wrong, or the tables of periods, deadlines and
+    /// jitters (write sheet) do not have a word for each stream counted: place
+    /// 0, 0.
     BadContents,
-    /// 5: a period is not 1 to 1,000,000,000 or a deadline not 1 to its
-    /// period, on the sheet or in the tables (write sheet), first in sheet
-    /// order. Place node, stream.
+    /// 5: a period is not 1 to 1,000,000,000, a deadline not 1 to its period or
+    /// a jitter not less than its period, on the sheet or in the tables (write
+    /// sheet), first in sheet order. Place node, stream.
     BadStream,
     /// 6: the room is shorter than one word a stream (admit) or a release
     /// (replay, step), than the sheet (write sheet), or than sixteen words,
     /// however few the nodes are (find budgets). Place 0, 0.
     RoomTooShort,
     /// 7: a stream is late: a message of it could be delivered after its
-    /// deadline (delivery is when its turn's protocol slot ends). The first in
+    /// deadline, which runs from its event, jitter ticks before its queuing at
+    /// most (delivery is when its turn's protocol slot ends). The first in
     /// sheet order (admit) or the asked one (one stream). Place node, stream.
     Late,
     /// 8: the sheet has no such stream. Place node, stream as asked.
@@ -77,7 +79,7 @@ pub enum Reason {
 /// use wistorvan::{admit, Reason};
 ///
 /// // Sheet A with 38 for both deadlines of node 1.
-/// let sheet = [2, 5, 1, 9, 2, 1, 13, 1, 2, 40, 38, 60, 38, 30, 30];
+/// let sheet = [2, 5, 1, 9, 2, 1, 15, 1, 2, 40, 38, 0, 60, 38, 0, 30, 30, 0];
 /// let refusal = admit(&sheet, &mut [0; 3]).unwrap_err();
 /// assert_eq!(refusal.reason(), Reason::Late);
 /// assert_eq!(refusal.number(), 7);
@@ -109,7 +111,7 @@ impl Refusal {
     ///
     /// ```
     /// // A wrong place of the body of node 1.
-    /// let refusal = wistorvan::check_sheet(&[1, 5, 1, 7, 1, 1, 20, 20]).unwrap_err();
+    /// let refusal = wistorvan::check_sheet(&[1, 5, 1, 7, 1, 1, 20, 20, 0]).unwrap_err();
     /// assert_eq!(refusal.place(), (1, 0));
     /// ```
     #[must_use]
@@ -152,7 +154,10 @@ impl Refusal {
             Reason::BadDuration => write!(f, "TMS or TPR is not 1 to 10,000"),
             Reason::BadContents if a == 0 => write!(f, "the sheet or a table has a wrong length"),
             Reason::BadContents => write!(f, "node {a}: wrong place, stream count or budget"),
-            Reason::BadStream => write!(f, "stream {b} of node {a}: wrong period or deadline"),
+            Reason::BadStream => write!(
+                f,
+                "stream {b} of node {a}: wrong period, deadline or jitter"
+            ),
             Reason::RoomTooShort => write!(
                 f,
                 "the room is too short for waits, begins, sheet or budgets"

@@ -7,7 +7,7 @@ use wistorvan::{admit, check_sheet, find_budgets, one_stream, raw, replay, step,
 use wistorvan::{Budgets, Bus, ListedWait, Reason, Refusal, Step, Tables, Written};
 use wistorvan::{LONGEST_SHEET, MAX_NODES, MAX_RELEASES, MAX_STREAMS, NOT_BEGUN};
 
-const SHEET_A: [u32; 15] = [2, 5, 1, 9, 2, 1, 13, 1, 2, 40, 40, 60, 60, 30, 30];
+const SHEET_A: [u32; 18] = [2, 5, 1, 9, 2, 1, 15, 1, 2, 40, 40, 0, 60, 60, 0, 30, 30, 0];
 const TABLES_A: Tables = Tables {
     message_ticks: 5,
     slot_ticks: 1,
@@ -15,12 +15,13 @@ const TABLES_A: Tables = Tables {
     budgets: &[1, 2],
     periods: &[40, 60, 30],
     deadlines: &[40, 60, 30],
+    jitters: &[0, 0, 0],
 };
 const LOG: [u32; 6] = [0, 1, 0, 2, 1, 3];
 const TOO_LARGE: u32 = 1_000_000_001;
 
 /// Sheet A with another word.
-fn sheet_a_with(place: usize, word: u32) -> [u32; 15] {
+fn sheet_a_with(place: usize, word: u32) -> [u32; 18] {
     let mut sheet = SHEET_A;
     sheet[place] = word;
     sheet
@@ -99,11 +100,11 @@ fn one_turn_after_another() {
 
 #[test]
 fn sheet_a_from_its_tables() {
-    let mut room = [7; 17];
+    let mut room = [7; 20];
     let written = write_sheet(&TABLES_A, &mut room).unwrap();
     assert_eq!((written.sheet, written.cycle), (&SHEET_A[..], 17));
-    assert_eq!(room[..15], SHEET_A);
-    assert_eq!(room[15..], [7, 7]);
+    assert_eq!(room[..18], SHEET_A);
+    assert_eq!(room[18..], [7, 7]);
 }
 
 #[test]
@@ -116,11 +117,12 @@ fn each_word_of_the_tables_in_its_place() {
         budgets: &[4, 5, 7],
         periods: &[100, 200, 300, 400],
         deadlines: &[90, 150, 260, 380],
+        jitters: &[99, 0, 17, 31],
     };
     let sheet = [
-        3, 8, 2, 12, 1, 4, 14, 0, 5, 14, 3, 7, 100, 90, 200, 150, 300, 260, 400, 380,
+        3, 8, 2, 12, 1, 4, 15, 0, 5, 15, 3, 7, 100, 90, 99, 200, 150, 0, 300, 260, 17, 400, 380, 31,
     ];
-    let mut room = [0; 20];
+    let mut room = [0; 24];
     let expected = Written {
         sheet: &sheet,
         cycle: 16 * 8 + 3 * 2,
@@ -151,10 +153,13 @@ fn the_smallest_budgets_of_sheet_a() {
 }
 
 /// The line of examples/budgets.c, with these budgets.
-fn line_with([first, second, third]: [u32; 3]) -> [u32; 28] {
+#[rustfmt::skip]
+fn line_with([first, second, third]: [u32; 3]) -> [u32; 36] {
     [
-        3, 5, 1, 12, 4, first, 20, 2, second, 24, 2, third, 200, 59, 500, 69, 1000, 49, 400, 69,
-        250, 39, 1000, 49, 1000, 1000, 10000, 10000,
+        3, 5, 1, 12, 4, first, 24, 2, second, 30, 2, third,
+        200, 59, 0, 500, 69, 0, 1000, 49, 0, 400, 69, 0,
+        250, 39, 0, 1000, 49, 0,
+        1000, 1000, 0, 10000, 10000, 0,
     ]
 }
 
@@ -207,15 +212,15 @@ fn the_plain_numbers() {
     let answer = raw::step(&SHEET_A, &LOG, &mut bus, &mut room);
     assert_eq!(numbers(answer), (0, 1, 6));
     assert_eq!((bus.tick, bus.node, bus.turns), (6, 2, 1));
-    let mut room = [7; 16];
+    let mut room = [7; 19];
     let answer = raw::write_sheet(&TABLES_A, &mut room);
-    assert_eq!(numbers(answer), (0, 15, 17));
-    assert_eq!((&room[..15], room[15]), (&SHEET_A[..], 7));
+    assert_eq!(numbers(answer), (0, 18, 17));
+    assert_eq!((&room[..18], room[18]), (&SHEET_A[..], 7));
     let mut room = [7; MAX_NODES + 2];
     let answer = raw::find_budgets(&SHEET_A, &mut room);
     assert_eq!(numbers(answer), (0, 2, 12));
     assert_eq!(room, room_with_row(&[1, 1]));
-    let answer = raw::find_budgets(&sheet_a_with(14, 16), &mut room);
+    let answer = raw::find_budgets(&sheet_a_with(16, 16), &mut room);
     assert_eq!(numbers(answer), (11, 2, 0));
 }
 
@@ -253,16 +258,21 @@ fn refusals_of_a_header() {
 #[test]
 fn refusals_of_contents_and_bodies() {
     let why = "the sheet or a table has a wrong length";
-    for length in [8, 14] {
+    for length in [8, 17] {
         let refusal = sheet_refusal(&SHEET_A[..length]);
         assert_refusal(refusal, Reason::BadContents, 4, (0, 0), why);
     }
     let refusal = sheet_refusal(&sheet_a_with(8, 17));
     let why = "node 2: wrong place, stream count or budget";
     assert_refusal(refusal, Reason::BadContents, 4, (2, 0), why);
-    let refusal = sheet_refusal(&sheet_a_with(12, 61));
-    let why = "stream 2 of node 1: wrong period or deadline";
-    assert_refusal(refusal, Reason::BadStream, 5, (1, 2), why);
+    let why = "stream 2 of node 1: wrong period, deadline or jitter";
+    // Its deadline, which may be as long as its period of 60, and its jitter,
+    // which may not.
+    for (place, word) in [(13, 61), (14, 60)] {
+        let refusal = sheet_refusal(&sheet_a_with(place, word));
+        assert_refusal(refusal, Reason::BadStream, 5, (1, 2), why);
+    }
+    assert_eq!(check_sheet(&sheet_a_with(14, 59)), Ok(()));
 }
 
 #[test]
@@ -270,7 +280,7 @@ fn a_late_stream() {
     // Equal deadlines, so the shorter period goes first.
     let both = |deadline| {
         let mut sheet = sheet_a_with(10, deadline);
-        sheet[12] = deadline;
+        sheet[13] = deadline;
         sheet
     };
     let sheet = both(38);
@@ -283,15 +293,76 @@ fn a_late_stream() {
     let admission = admit(&both(39), &mut room).unwrap();
     assert_eq!(admission.waits, [16, 33, 16]);
     // The shorter deadline goes first, though its period is longer.
-    let admission = admit(&sheet_a_with(12, 37), &mut room).unwrap();
+    let admission = admit(&sheet_a_with(13, 37), &mut room).unwrap();
     assert_eq!(admission.waits, [33, 16, 16]);
+}
+
+/// The waits of sheet A with a jitter of one of its streams, or the place of the
+/// late one.
+fn waits_with_jitter(stream: usize, jitter: u32) -> Result<[u32; 3], (u32, u32)> {
+    let (sheet, mut room) = (sheet_a_with(11 + 3 * stream, jitter), [7; 3]);
+    match admit(&sheet, &mut room) {
+        Ok(_) => Ok(room),
+        Err(refusal) => {
+            assert_eq!((refusal.reason(), room), (Reason::Late, [7; 3]));
+            Err(refusal.place())
+        }
+    }
+}
+
+#[test]
+fn a_jitter_lengthens_the_waits_below() {
+    // 33 + 7 is a period of stream 1: two messages of it come before stream 2.
+    assert_eq!(waits_with_jitter(0, 6), Ok([16, 33, 16]));
+    assert_eq!(waits_with_jitter(0, 7), Ok([16, 50, 16]));
+}
+
+#[test]
+fn a_deadline_runs_from_the_event() {
+    // Delivery comes 33 + 6 ticks after the queuing in stream 2, and 16 + 11 in
+    // stream 3; the jitter comes before. The rank stays, and so do the waits.
+    assert_eq!(waits_with_jitter(1, 21), Ok([16, 33, 16]));
+    assert_eq!(waits_with_jitter(1, 22), Err((1, 2)));
+    assert_eq!(waits_with_jitter(2, 3), Ok([16, 33, 16]));
+    assert_eq!(waits_with_jitter(2, 4), Err((2, 1)));
+    // A jitter at its deadline and above is valid, and always late.
+    let mut sheet = sheet_a_with(10, 30);
+    for jitter in [30, 39] {
+        sheet[11] = jitter;
+        assert_eq!(check_sheet(&sheet), Ok(()));
+        let refusal = one_stream(&sheet, 1, 1).unwrap_err();
+        assert_eq!((refusal.number(), refusal.place()), (7, (1, 1)));
+    }
+}
+
+#[test]
+fn budgets_are_found_with_jitter() {
+    let mut room = [7; MAX_NODES];
+    // With 1 and 1 the cycle is 12: stream 3 is delivered 11 + 6 ticks after its
+    // queuing, and 13 may pass before; then more budget would only be slower.
+    let found = find_budgets(&sheet_a_with(17, 13), &mut room).unwrap();
+    assert_eq!(found.row, [1, 1]);
+    let refusal = find_budgets(&sheet_a_with(17, 14), &mut room).unwrap_err();
+    assert_eq!(
+        (refusal.reason(), refusal.place()),
+        (Reason::NoBudgets, (2, 0))
+    );
+}
+
+#[test]
+fn a_log_holds_queuing_ticks() {
+    // Jitter plays no part in a replay, nor in the rank: 60 less 59 is the
+    // shortest, and stream 2 still goes after stream 1.
+    let mut room = [7; 3];
+    let replayed = replay(&sheet_a_with(14, 59), &LOG, 40, &mut room).unwrap();
+    assert_eq!(replayed.begins, [0, 12, 6]);
 }
 
 #[test]
 fn no_budgets_that_work() {
     let (mut room, too_short) = ([7; MAX_NODES], &mut [7; MAX_NODES - 1]);
     // In the second sheet node 1 becomes late too, but node 2 has 16 first.
-    for (sheet, node) in [(sheet_a_with(10, 16), 1), (sheet_a_with(14, 16), 2)] {
+    for (sheet, node) in [(sheet_a_with(10, 16), 1), (sheet_a_with(16, 16), 2)] {
         let refusal = find_budgets(&sheet, &mut room).unwrap_err();
         let why = format!("no budgets of 1 to 16 work: node {node} is late even with 16");
         assert_refusal(refusal, Reason::NoBudgets, 11, (node, 0), &why);
@@ -300,7 +371,7 @@ fn no_budgets_that_work() {
     }
     assert_eq!((room, *too_short), ([7; MAX_NODES], [7; MAX_NODES - 1]));
     // A tick more is enough: with 1 and 1 the cycle is 12, and 12 - 1 + 6 is 17.
-    let found = find_budgets(&sheet_a_with(14, 17), &mut room).unwrap();
+    let found = find_budgets(&sheet_a_with(16, 17), &mut room).unwrap();
     assert_eq!(found.row, [1, 1]);
 }
 
@@ -398,6 +469,7 @@ const ALL_WRONG: Tables = Tables {
     budgets: &[0],
     periods: &[0],
     deadlines: &[0, 0],
+    jitters: &[],
 };
 
 #[test]
@@ -422,20 +494,21 @@ fn refusals_of_the_nodes_and_ticks_of_tables() {
 }
 
 /// Tables whose contents or streams are wrong, on sheet A's bus.
-fn on_bus_a<'t>(rows: [&'t [u32]; 2], streams: [&'t [u32]; 2]) -> Tables<'t> {
-    let ([counts, budgets], [periods, deadlines]) = (rows, streams);
+fn on_bus_a<'t>(rows: [&'t [u32]; 2], streams: [&'t [u32]; 3]) -> Tables<'t> {
+    let ([counts, budgets], [periods, deadlines, jitters]) = (rows, streams);
     Tables {
         counts,
         budgets,
         periods,
         deadlines,
+        jitters,
         ..TABLES_A
     }
 }
 
 #[test]
 fn refusals_of_the_rows_of_tables() {
-    let wrong = [&[0][..], &[0, 0]];
+    let wrong = [&[0][..], &[0, 0], &[]];
     let why = "the sheet or a table has a wrong length";
     for budgets in [&[][..], &[0], &[0; 3]] {
         let refusal = tables_refusal(on_bus_a([&[17, 17], budgets], wrong));
@@ -462,33 +535,39 @@ fn refusals_of_the_streams_of_tables() {
     let why = "the sheet or a table has a wrong length";
     let (two, three, four) = (&[0; 2][..], &[0; 3][..], &[0; 4][..]);
     for streams in [
-        [two, three],
-        [three, two],
-        [four, three],
-        [three, four],
-        [two, two],
-        [&[], &[]],
+        [two, three, three],
+        [three, two, three],
+        [three, three, two],
+        [four, three, three],
+        [three, four, three],
+        [three, three, four],
+        [three, three, &[]],
+        [two, two, two],
+        [&[], &[], &[]],
     ] {
         let refusal = tables_refusal(on_bus_a(rows, streams));
         assert_refusal(refusal, Reason::BadContents, 4, (0, 0), why);
     }
-    for (periods, deadlines, (node, stream)) in [
-        ([0, 60, 30], [0, 60, 30], (1, 1)),
-        ([40, TOO_LARGE, 0], [40, 60, 30], (1, 2)),
-        ([40, 60, 30], [40, 61, 31], (1, 2)),
-        ([40, 60, 30], [40, 0, 0], (1, 2)),
-        ([40, 60, 30], [40, 60, 31], (2, 1)),
+    for (periods, deadlines, jitters, (node, stream)) in [
+        ([0, 60, 30], [0, 60, 30], [0, 60, 30], (1, 1)),
+        ([40, TOO_LARGE, 0], [40, 60, 30], [0, 0, 0], (1, 2)),
+        ([40, 60, 30], [40, 61, 31], [0, 0, 30], (1, 2)),
+        ([40, 60, 30], [40, 0, 0], [0, 0, 0], (1, 2)),
+        ([40, 60, 30], [40, 60, 31], [0, 0, 0], (2, 1)),
+        ([40, 60, 30], [40, 60, 31], [0, 60, 0], (1, 2)),
+        ([40, 60, 30], [40, 60, 30], [39, 59, 30], (2, 1)),
+        ([40, 60, 30], [40, 60, 30], [u32::MAX, 0, 0], (1, 1)),
     ] {
-        let refusal = tables_refusal(on_bus_a(rows, [&periods, &deadlines]));
-        let why = format!("stream {stream} of node {node}: wrong period or deadline");
+        let refusal = tables_refusal(on_bus_a(rows, [&periods, &deadlines, &jitters]));
+        let why = format!("stream {stream} of node {node}: wrong period, deadline or jitter");
         assert_refusal(refusal, Reason::BadStream, 5, (node, stream), &why);
     }
 }
 
 /// Sixteen nodes of sixteen streams, with the longest periods and deadlines.
 fn longest_sheet() -> Vec<u32> {
-    let rows = (0..16).flat_map(|node| [51 + 32 * node, 16, 16]);
-    let bodies = [1_000_000_000; 2 * MAX_STREAMS];
+    let rows = (0..16).flat_map(|node| [51 + 48 * node, 16, 16]);
+    let bodies = [1_000_000_000, 1_000_000_000, 500].repeat(MAX_STREAMS);
     [16, 1, 1].into_iter().chain(rows).chain(bodies).collect()
 }
 
@@ -501,6 +580,7 @@ fn the_longest_sheet() {
         budgets: &[16; 16],
         periods: &[1_000_000_000; MAX_STREAMS],
         deadlines: &[1_000_000_000; MAX_STREAMS],
+        jitters: &[500; MAX_STREAMS],
     };
     let mut room = [0; LONGEST_SHEET];
     let written = write_sheet(&most, &mut room).unwrap();

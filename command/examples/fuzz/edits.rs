@@ -3,7 +3,7 @@
 use super::random::Random;
 
 /// Words and numbers that a file may turn on.
-pub const TOKENS: [&str; 44] = [
+pub const TOKENS: [&str; 45] = [
     "tick",
     "message",
     "slot",
@@ -12,6 +12,7 @@ pub const TOKENS: [&str; 44] = [
     "budget",
     "period",
     "deadline",
+    "jitter",
     "us",
     "ms",
     "s",

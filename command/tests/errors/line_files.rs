@@ -87,15 +87,51 @@ fn streams() {
     );
     in_node(
         "stream b 5 ms",
-        "found \"5\", expected \"period\" or \"deadline\"",
+        "found \"5\", expected \"period\", \"deadline\" or \"jitter\"",
     );
     in_node(
         "stream b period 5 ms 6",
-        "found \"6\", expected \"deadline\"",
+        "found \"6\", expected \"deadline\" or \"jitter\"",
+    );
+    in_node(
+        "stream b jitter 1 ms 6",
+        "found \"6\", expected \"period\" or \"deadline\"",
     );
     in_node(
         "stream b period 5 ms deadline 5 ms x",
+        "found \"x\", expected \"jitter\" or the end of the line",
+    );
+    in_node(
+        "stream b period 5 ms jitter 1 ms deadline 5 ms x",
         "found \"x\", expected the end of the line",
+    );
+    in_node(
+        "stream b jitter 1 ms",
+        "found the end of the line, expected \"period\" and \"deadline\"",
+    );
+    in_node(
+        "stream b jitter 1 ms period 5 ms",
+        "found the end of the line, expected \"deadline\"",
+    );
+    in_node(
+        "stream b period 5 ms deadline 5 ms jitter",
+        "found the end of the line, expected a duration such as 50 ms",
+    );
+    in_node(
+        "stream b period 5 ms jitter deadline 5 ms",
+        "found \"deadline\", expected a duration such as 50 ms",
+    );
+    in_node(
+        "stream b jitter 1 ms jitter 1 ms period 5 ms deadline 5 ms",
+        "found \"jitter\" a second time, expected it once",
+    );
+    in_node(
+        "stream b period 5 ms deadline 5 ms jitter -1 ms",
+        "found \"-1\", expected a duration such as 50 ms",
+    );
+    in_node(
+        "stream b period 5 ms deadline 5 ms jitter 120 h",
+        "found 120 h, which is 4320000000 ticks, expected at most 4294967295 ticks",
     );
     in_node(
         "stream b period 5 ms deadline",
@@ -236,7 +272,7 @@ fn texts() {
 
 #[test]
 fn line_ends_and_marks() {
-    let text = line("# one\n\nnode a budget 1 # 2\n\tstream b deadline 5ms period 5ms");
+    let text = line("# one\n\nnode a budget 1 # 2\n\tstream b deadline 5ms period 5ms jitter 1ms");
     let expected = run(&["words", "-"], text.as_bytes()).out;
     assert!(!expected.is_empty());
     for changed in [
@@ -289,16 +325,23 @@ fn refusals() {
          line 2: slot 10001 ticks: a slot takes 1 to 10,000 ticks (refused 3)\n\
          line 3: node a: 2 streams and budget 17: a node has at most 16 streams and a budget of 1 to 16 (refused 4)\n\
          line 4: stream b of node a: period 500 ticks and deadline 600 ticks: \
-         a period is 1 to 1,000,000,000 ticks and a deadline 1 tick to its period (refused 5)\n\
+         a period is 1 to 1,000,000,000 ticks, a deadline 1 tick to its period and a jitter less than its period (refused 5)\n\
          line 5: stream c of node a: period 0 ticks and deadline 0 ticks: \
-         a period is 1 to 1,000,000,000 ticks and a deadline 1 tick to its period (refused 5)\n\
+         a period is 1 to 1,000,000,000 ticks, a deadline 1 tick to its period and a jitter less than its period (refused 5)\n\
          line 6: node d: 0 streams and budget 0: a node has at most 16 streams and a budget of 1 to 16 (refused 4)"
     );
     let rounded = line("node a budget 1\nstream b period 1 ms deadline 0.05 ms");
     assert_eq!(
         refused(&rounded),
         "line 5: stream b of node a: period 10 ticks and deadline 0 ticks (rounded from 0.05 ms): \
-         a period is 1 to 1,000,000,000 ticks and a deadline 1 tick to its period (refused 5)"
+         a period is 1 to 1,000,000,000 ticks, a deadline 1 tick to its period and a jitter less than its period (refused 5)"
+    );
+    // A jitter that is less than its period, and no longer where it is rounded.
+    let rounded = line("node a budget 1\nstream b period 1 ms deadline 1 ms jitter 0.95 ms");
+    assert_eq!(
+        refused(&rounded),
+        "line 5: stream b of node a: period 10 ticks, deadline 10 ticks and jitter 10 ticks (rounded from 0.95 ms): \
+         a period is 1 to 1,000,000,000 ticks, a deadline 1 tick to its period and a jitter less than its period (refused 5)"
     );
     assert_eq!(
         refused("message 1 tick\nslot 1 tick"),

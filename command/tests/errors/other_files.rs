@@ -62,6 +62,14 @@ fn recorders() {
         message(&ran, 2, "standard input"),
         format!("line 2: found 1 s, expected ticks: {in_ticks} has no tick statement")
     );
+    let ran = run(
+        &["check", &in_ticks, "--with", "-"],
+        b"node r budget 1\nstream s period 9 ticks deadline 9 ticks jitter 1 ms",
+    );
+    assert_eq!(
+        message(&ran, 2, "standard input"),
+        format!("line 2: found 1 ms, expected ticks: {in_ticks} has no tick statement")
+    );
 }
 
 #[test]
@@ -138,12 +146,12 @@ fn sheets() {
     );
     let words = |words: &[u32]| to_bytes(words);
     assert_eq!(
-        text(&words(&[1, 5, 1, 6, 1, 1, 10, 11]), 1),
-        "stream 1 of node 1: wrong period or deadline (refused 5)"
+        text(&words(&[1, 5, 1, 6, 1, 1, 10, 10, 10]), 1),
+        "stream 1 of node 1: wrong period, deadline or jitter (refused 5)"
     );
     let long = run(
         &["text", "-", "--tick", "999999999999999h"],
-        &words(&[1, 5, 1, 6, 1, 1, 10, 10]),
+        &words(&[1, 5, 1, 6, 1, 1, 10, 10, 0]),
     );
     assert_eq!(
         message(&long, 2, "wistorvan"),

@@ -28,6 +28,11 @@ pub fn streams_hold(
             number(row, "deadline")?,
             named.streams[stream].deadline.ticks.into(),
         )?;
+        equal(
+            "jitter",
+            number(row, "jitter")?,
+            named.streams[stream].jitter.ticks.into(),
+        )?;
         let said = Listed {
             late: row.get("late") == Some(&Json::Bool(true)),
             wait: optional(row, "wait")?,
@@ -141,7 +146,7 @@ pub fn row_holds(said: Option<&Json>, line: &Line, ticks: &Ticks) -> Held {
 /// The durations of a line that are no whole ticks are listed, with their ticks.
 pub fn rounded_holds(rows: &[Json], line: &Line) -> Held {
     let streams = line.nodes.iter().flat_map(|node| &node.streams);
-    let spans = streams.flat_map(|stream| [&stream.period, &stream.deadline]);
+    let spans = streams.flat_map(|stream| [&stream.period, &stream.deadline, &stream.jitter]);
     let spans = spans.chain([&line.message, &line.slot]);
     let rounded = spans.filter(|span| span.rounded);
     let mut expected: Vec<i64> = rounded.map(|span| span.ticks.into()).collect();

@@ -6,7 +6,7 @@ use wistorvan::{LONGEST_SHEET, MAX_NODES, MAX_STREAMS};
 
 use super::lines::{Line, Stream};
 
-/// A line in ticks: periods and deadlines in sheet order.
+/// A line in ticks: periods, deadlines and jitters in sheet order.
 #[derive(Clone)]
 pub struct Ticks {
     pub message: u32,
@@ -15,6 +15,7 @@ pub struct Ticks {
     pub budgets: Vec<u32>,
     pub periods: Vec<u32>,
     pub deadlines: Vec<u32>,
+    pub jitters: Vec<u32>,
 }
 
 /// The answer about one stream, as `check --json` has it.
@@ -42,6 +43,7 @@ pub fn ticks(line: &Line, nodes: usize) -> Ticks {
         budgets: nodes.iter().map(|node| node.budget).collect(),
         periods: streams.iter().map(|stream| stream.period.ticks).collect(),
         deadlines: streams.iter().map(|stream| stream.deadline.ticks).collect(),
+        jitters: streams.iter().map(|stream| stream.jitter.ticks).collect(),
     }
 }
 
@@ -54,6 +56,7 @@ impl Ticks {
             budgets: &self.budgets,
             periods: &self.periods,
             deadlines: &self.deadlines,
+            jitters: &self.jitters,
         };
         let mut room = [0; LONGEST_SHEET];
         let written = write_sheet(&tables, &mut room)?;
@@ -92,16 +95,17 @@ impl Ticks {
         (self.deadlines[at], self.periods[at], at)
     }
 
-    fn delivery(&self, cycles: u32, cycle: u32, node: usize) -> i64 {
+    /// From the event of the stream at this place in the tables.
+    fn delivery(&self, cycles: u32, cycle: u32, node: usize, at: usize) -> i64 {
         let turn = i64::from(self.budgets[node]) * i64::from(self.message) + i64::from(self.slot);
-        i64::from(cycles) * i64::from(cycle) - 1 + turn
+        i64::from(self.jitters[at]) + i64::from(cycles) * i64::from(cycle) - 1 + turn
     }
 
     pub fn listed(&self, sheet: &Sheet, node: usize, stream: usize) -> Listed {
         let answer = one_stream(&sheet.words, node as u32 + 1, stream as u32 + 1).ok();
         let at = self.first(node) + stream;
         let delivery = match answer {
-            Some(listed) => Some(self.delivery(listed.cycles, sheet.cycle, node)),
+            Some(listed) => Some(self.delivery(listed.cycles, sheet.cycle, node, at)),
             None => self.needed(node, at),
         };
         Listed {
@@ -125,11 +129,13 @@ impl Ticks {
         alone.counts[node] = above.len() as u32 + 1;
         alone.periods = above.iter().map(|&other| self.periods[other]).collect();
         alone.deadlines = above.iter().map(|&other| self.deadlines[other]).collect();
+        alone.jitters = above.iter().map(|&other| self.jitters[other]).collect();
         alone.periods.push(1_000_000_000);
         alone.deadlines.push(1_000_000_000);
+        alone.jitters.push(0);
         let sheet = alone.sheet().ok()?;
         let answer = one_stream(&sheet.words, node as u32 + 1, above.len() as u32 + 1).ok()?;
-        Some(self.delivery(answer.cycles, sheet.cycle, node))
+        Some(self.delivery(answer.cycles, sheet.cycle, node, at))
     }
 
     /// The nearest other budget of a node with which the line is admitted:

@@ -43,6 +43,7 @@ pub struct Stream {
     pub name: String,
     pub period: Span,
     pub deadline: Span,
+    pub jitter: Span,
 }
 
 pub struct Node {
@@ -149,12 +150,13 @@ impl Writer<'_> {
         format!("{word}{number}")
     }
 
-    fn node(&mut self, number: usize, budget: u32, streams: &[(u32, u32)]) -> Node {
+    fn node(&mut self, number: usize, budget: u32, streams: &[StreamNumbers]) -> Node {
         let name = self.name(number);
-        let stream = |(number, &(period, deadline))| Stream {
+        let stream = |(number, numbers): (usize, &StreamNumbers)| Stream {
             name: self.name(number),
-            period: self.span(period, Side::Down),
-            deadline: self.span(deadline, Side::Down),
+            period: self.span(numbers.period, Side::Down),
+            deadline: self.span(numbers.deadline, Side::Down),
+            jitter: self.span(numbers.jitter, Side::Up),
         };
         let streams = (1..).zip(streams).map(stream).collect();
         Node {
@@ -169,7 +171,14 @@ impl Writer<'_> {
 pub struct Numbers {
     pub message: u32,
     pub slot: u32,
-    pub nodes: Vec<(u32, Vec<(u32, u32)>)>,
+    pub nodes: Vec<(u32, Vec<StreamNumbers>)>,
+}
+
+#[derive(Clone, Copy)]
+pub struct StreamNumbers {
+    pub period: u32,
+    pub deadline: u32,
+    pub jitter: u32,
 }
 
 /// A line file's content from numbers of ticks.
@@ -197,7 +206,7 @@ pub fn line(random: &mut Random, numbers: &Numbers) -> Line {
 }
 
 /// The statements of a node, with its budget or without it, and with the keys
-/// of a stream in either order.
+/// of a stream in any order. A jitter of 0 is mostly left out.
 pub fn node_statements(random: &mut Random, node: &Node, budget: bool) -> Vec<String> {
     let first = match budget {
         true => format!("node {} budget {}", node.name, node.budget),
@@ -208,16 +217,21 @@ pub fn node_statements(random: &mut Random, node: &Node, budget: bool) -> Vec<St
         name,
         period,
         deadline,
+        jitter,
     } in &node.streams
     {
-        let period = format!("period {}", period.text);
-        let deadline = format!("deadline {}", deadline.text);
-        let keys = if random.one_in(3) {
-            [deadline, period]
-        } else {
-            [period, deadline]
-        };
-        statements.push(format!("stream {name} {} {}", keys[0], keys[1]));
+        let mut keys = vec![
+            format!("period {}", period.text),
+            format!("deadline {}", deadline.text),
+        ];
+        if jitter.ticks > 0 || random.one_in(8) {
+            keys.push(format!("jitter {}", jitter.text));
+        }
+        if random.one_in(3) {
+            let (first, second) = (random.index(keys.len()), random.index(keys.len()));
+            keys.swap(first, second);
+        }
+        statements.push(format!("stream {name} {}", keys.join(" ")));
     }
     statements
 }

@@ -3,7 +3,7 @@ ghost use mathlib.Core.Path.{_≡_};
 ghost use Rattle.model.specs.Sheet.{cycle as fullCycle, OnSheet, Valid};
 ghost use Rattle.model.specs.Analysis.{timingWith, verdictWith, verdictOf};
 ghost use Rattle.wait.specs.InRange.{CycleAndBudget};
-use crate::higher::higher_periods;
+use crate::higher::higher_streams;
 use layout::budget_of;
 use layout::stream_of;
 use layout::word_at;
@@ -30,9 +30,10 @@ pub fn verdict_with(sheet: &[u32], cycle: u32, budget: u32, k: u32, j: u32) -> V
 {
     let stream = stream_of(sheet, k, j);
     let timing = timing_with(sheet, cycle, budget);
-    let mut higher = [0u32; 16];
-    let n = higher_periods(sheet, k, stream, &mut higher);
-    verdict_by(&higher[..n], timing, stream.deadline)
+    let mut periods = [0u32; 16];
+    let mut jitters = [0u32; 16];
+    let n = higher_streams(sheet, k, stream, &mut periods, &mut jitters);
+    verdict_by(&periods[..n], &jitters[..n], timing, stream)
 }
 
 // The verdict on stream j of node k with the sheet's own budget and, as `cycle`, its full cycle.

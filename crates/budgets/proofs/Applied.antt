@@ -13,7 +13,7 @@ use Rattle.model.specs.Refusal.{success, refuse, refuseIf, _orElse_, firstOf, o
 use Rattle.model.specs.Sheet.{cycle, ticksOutside, countsOutside, timesOutside, rowWrong, rowRefusal, streamRefusal, bodyRefusal, headerRefusal, sheetRefusal, totalStreams, Valid}
 use Rattle.model.specs.Analysis.{streamsFrom, outranks, above, mostReleases, interference, waitFor, search, verdict, verdictWith}
 use Rattle.model.specs.Answers.{roomRefusal, lateRefusal, nodeLateWith, bufferAfter, admitAnswer}
-use Rattle.model.specs.Bench.{sheetA}
+use Rattle.model.specs.Bench.{sheetA, sheetJitter}
 use Rattle.budgets.specs.Rounds.{budgetIn, ownRow, Admits, firstRow, raised, fullRefusal, stuckRefusal, goesOn, rounds, lastRow}
 use Rattle.budgets.specs.Answer.{findAnswer, findBuffer}
 use Rattle.budgets.specs.Least.{OneToSixteen, LeastBudgets}
@@ -26,8 +26,8 @@ A = sheetA 40 40 60
 -- A controller of four streams, the third with the deadline `due`, a burner of two and a recorder of two; its budgets are 2, 1 and 4.
 unfoldable pub line : ℕ → List ℕ
 line due =
-    3 ∷ 5 ∷ 1 ∷ 12 ∷ 4 ∷ 2 ∷ 20 ∷ 2 ∷ 1 ∷ 24 ∷ 2 ∷ 4 ∷ 200 ∷ 59 ∷ 500 ∷ 69 ∷ 1000 ∷ due ∷ 400 ∷ 69 ∷ 250 ∷ 39 ∷ 1000 ∷ 49 ∷ 1000 ∷ 1000
-    ∷ 10_000 ∷ 10_000 ∷ []
+    3 ∷ 5 ∷ 1 ∷ 12 ∷ 4 ∷ 2 ∷ 24 ∷ 2 ∷ 1 ∷ 30 ∷ 2 ∷ 4 ∷ 200 ∷ 59 ∷ 0 ∷ 500 ∷ 69 ∷ 0 ∷ 1000 ∷ due ∷ 0 ∷ 400 ∷ 69 ∷ 0 ∷ 250 ∷ 39 ∷ 0 ∷ 1000 ∷ 49 ∷ 0
+    ∷ 1000 ∷ 1000 ∷ 0 ∷ 10_000 ∷ 10_000 ∷ 0 ∷ []
 
 -- What is answered and written.
 pub record Cases : Type 0 where
@@ -42,16 +42,37 @@ pub record Cases : Type 0 where
   pub unread : findAnswer [] 0 ≡ refuse 1 0 0
   pub stuck : findAnswer (line 19) 16 ≡ refuse 11 1 0
   pub short : findAnswer (line 19) 15 ≡ refuse 6 0 0
+  -- the rounds judge with jitter: with the second stream's own to the tick, and with that of the one above it
+  pub withJitter : findAnswer (sheetJitter 0 31) 16 ≡ success 2 12
+  pub raisedByJitter : findAnswer (sheetJitter 0 32) 16 ≡ success 3 17
+  pub stuckByJitter : findAnswer (sheetJitter 0 34) 16 ≡ refuse 11 1 0
+  pub jitterAbove : findAnswer (sheetJitter 16 20) 16 ≡ success 2 12
+  pub stuckByAbove : findAnswer (sheetJitter 17 20) 16 ≡ refuse 11 1 0
 
 pub cases : Cases
 unfolding
-    A line sheetA sum upTo valuesFrom joinedFrom
+    A line sheetA sheetJitter sum upTo valuesFrom joinedFrom
     refuseIf _orElse_ firstOf outside
     cycle ticksOutside countsOutside timesOutside rowWrong rowRefusal streamRefusal bodyRefusal headerRefusal sheetRefusal
     streamsFrom outranks above mostReleases interference waitFor search verdict verdictWith
     roomRefusal lateRefusal nodeLateWith bufferAfter admitAnswer
     firstRow raised fullRefusal stuckRefusal goesOn rounds lastRow findAnswer findBuffer
-cases = record { answerA = refl; rowA = refl; refused = refl; answerLine = refl; rowLine = refl; unread = refl; stuck = refl; short = refl }
+cases =
+    record {
+      answerA = refl;
+      rowA = refl;
+      refused = refl;
+      answerLine = refl;
+      rowLine = refl;
+      unread = refl;
+      stuck = refl;
+      short = refl;
+      withJitter = refl;
+      raisedByJitter = refl;
+      stuckByJitter = refl;
+      jitterAbove = refl;
+      stuckByAbove = refl;
+    }
 
 -- Both sheets are valid, and what else computes of them.
 record Facts : Type 0 where

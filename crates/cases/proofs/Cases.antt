@@ -9,8 +9,8 @@ use Rattle.model.specs.Sheet.{cycle, ticksOutside, countsOutside, timesOutside,
 use Rattle.model.specs.Analysis.{streamsFrom, outranks, above, mostReleases, interference, waitFor, search, verdict, verdictWith}
 use Rattle.model.specs.Protocol.{ofNode, queuedBefore, waiting, beginsFrom, serve, nextNode, nextBus, turn, start, run, replayed}
 use Rattle.model.specs.Answers.{roomRefusal, tickBefore, releaseRefusal, logRefusal, horizonRefusal, lateRefusal, nodeLateWith, waitWord, bufferAfter, unknownRefusal, verdictAnswer, recordRefusal, oneStreamAnswer, admitAnswer, admitBuffer, replayAnswer, replayBuffer, stepRefusal, stepAnswer, stepBus, stepBuffer}
-use Rattle.model.specs.Bench.{sheetA, sheetA6, sheetP7, sheetPair, logP9, logP11}
-use Rattle.cases.specs.Cases.{AllHold, cases, gives, outcomeOf, lent, Further, sheetEqual, logBoth, madeUpBus, madeUpRoom}
+use Rattle.model.specs.Bench.{sheetA, sheetA6, sheetP7, sheetPair, sheetJitter, logP9, logP11}
+use Rattle.cases.specs.Cases.{AllHold, cases, gives, outcomeOf, lent, Further, sheetEqual, sheetOne, logBoth, madeUpBus, madeUpRoom}
 
 pub all-hold : AllHold
 unfolding
@@ -34,7 +34,7 @@ unfolding
     unknownRefusal verdictAnswer oneStreamAnswer
     roomRefusal tickBefore releaseRefusal logRefusal horizonRefusal lateRefusal nodeLateWith waitWord valuesFrom joinedFrom bufferAfter
     admitAnswer admitBuffer replayAnswer replayBuffer recordRefusal stepRefusal stepAnswer stepBus stepBuffer
-    lent sheetA sheetP7 sheetPair logP11 sheetEqual logBoth madeUpBus madeUpRoom
+    lent sheetA sheetP7 sheetPair sheetJitter logP11 sheetEqual sheetOne logBoth madeUpBus madeUpRoom
 further =
     record {
       secondStream = refl;
@@ -63,4 +63,15 @@ further =
       stepRecord = refl;
       stepWords = refl;
       stepRefused = refl;
+      ownJitter = refl;
+      ownJitterLate = refl;
+      jitterAbove = refl;
+      wholePeriod = refl;
+      lateByOwn = refl;
+      jitterInTime = refl;
+      jitterTooLong = refl;
+      jitterIsDeadline = refl;
+      longestJitter = refl;
+      jitterIsPeriod = refl;
+      rankWithoutJitter = refl;
     }

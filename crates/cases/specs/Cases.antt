@@ -12,7 +12,7 @@ use Rattle.model.specs.Refusal.{success, refuse}
 use Rattle.model.specs.Sheet.{totalStreams}
 use Rattle.model.specs.Protocol.{releases, start}
 use Rattle.model.specs.Answers.{oneStreamAnswer, admitAnswer, admitBuffer, replayAnswer, replayBuffer, stepAnswer, stepBus, stepBuffer}
-use Rattle.model.specs.Bench.{sheetA, sheetA6, sheetP7, sheetPair, logP9, logP11}
+use Rattle.model.specs.Bench.{sheetA, sheetA6, sheetP7, sheetPair, sheetJitter, logP9, logP11}
 
 -- What is asked: admit a sheet; or replay a log on it up to a horizon.
 pub data Question : Type 0 where
@@ -70,7 +70,11 @@ AllHold = map (λ c. outcomeOf (c .question)) cases ≡ map (λ c. c .outcome) c
 -- One node with three streams of equal periods, the second with the shortest deadline: it is ranked first, and of the other two the
 -- one with the lower number.
 unfoldable pub sheetEqual : List ℕ
-sheetEqual = 1 ∷ 5 ∷ 1 ∷ 6 ∷ 3 ∷ 2 ∷ 100 ∷ 100 ∷ 100 ∷ 50 ∷ 100 ∷ 100 ∷ []
+sheetEqual = 1 ∷ 5 ∷ 1 ∷ 6 ∷ 3 ∷ 2 ∷ 100 ∷ 100 ∷ 0 ∷ 100 ∷ 50 ∷ 0 ∷ 100 ∷ 100 ∷ 0 ∷ []
+
+-- One node with one stream of period 100 and deadline 50. C is 6, and a turn takes 6 ticks.
+unfoldable pub sheetOne : ℕ → List ℕ
+sheetOne jitter = 1 ∷ 5 ∷ 1 ∷ 6 ∷ 1 ∷ 1 ∷ 100 ∷ 50 ∷ jitter ∷ []
 
 -- Both streams of node 1 release at tick 0, when its first turn starts: the one ranked above begins at once.
 unfoldable pub logBoth : List ℕ
@@ -86,7 +90,8 @@ madeUpRoom = 3 ∷ notBegun ∷ 4 ∷ notBegun ∷ notBegun ∷ []
 
 -- Cases beside those: one stream with its wait and J; the late test at its edge, in the first turn and in the second, and for a message that is
 -- first in a turn of two; releases that come while a stream waits; rank by deadline, then by period (61 is the longer one), then by number, in
--- waits, replay and step; the order of refusals; and one step over a made-up buffer.
+-- waits, replay and step; the order of refusals; one step over a made-up buffer; and jitter: in the late test the stream's own, to the tick, in
+-- the wait that of the one above, where the window with it comes to a whole period, in its range less than the period, and not in the rank.
 pub record Further : Type 0 where
   pub secondStream : oneStreamAnswer (sheetA 40 40 60) 1 2 ≡ success 33 2
   pub threeCycles : oneStreamAnswer (sheetA 33 33 60) 1 2 ≡ success 50 3
@@ -114,3 +119,14 @@ pub record Further : Type 0 where
   pub stepRecord : stepBus (sheetA 40 40 60) logP11 madeUpBus madeUpRoom ≡ record { tick = 13; node = 1; turns = 6 }
   pub stepWords : stepBuffer (sheetA 40 40 60) logP11 madeUpBus madeUpRoom ≡ 3 ∷ 7 ∷ 4 ∷ notBegun ∷ notBegun ∷ []
   pub stepRefused : stepAnswer (sheetA 40 40 60) logP11 (record { tick = 7; node = 3; turns = 5 }) madeUpRoom ≡ refuse 16 0 0
+  pub ownJitter : oneStreamAnswer (sheetJitter 18 0) 1 1 ≡ success 16 1
+  pub ownJitterLate : oneStreamAnswer (sheetJitter 19 0) 1 1 ≡ refuse 7 1 1
+  pub jitterAbove : oneStreamAnswer (sheetJitter 6 0) 1 2 ≡ success 33 2
+  pub wholePeriod : oneStreamAnswer (sheetJitter 7 4) 1 2 ≡ success 50 3
+  pub lateByOwn : oneStreamAnswer (sheetJitter 7 5) 1 2 ≡ refuse 7 1 2
+  pub jitterInTime : oneStreamAnswer (sheetOne 39) 1 1 ≡ success 5 1
+  pub jitterTooLong : oneStreamAnswer (sheetOne 40) 1 1 ≡ refuse 7 1 1
+  pub jitterIsDeadline : oneStreamAnswer (sheetOne 50) 1 1 ≡ refuse 7 1 1
+  pub longestJitter : oneStreamAnswer (sheetOne 99) 1 1 ≡ refuse 7 1 1
+  pub jitterIsPeriod : oneStreamAnswer (sheetOne 100) 1 1 ≡ refuse 5 1 1
+  pub rankWithoutJitter : replayBuffer (sheetJitter 0 30) logBoth 8 (lent 2) ≡ 0 ∷ 7 ∷ 9 ∷ []

@@ -34,10 +34,10 @@ pub fn put_row(place: u32, count: u32, budget: u32, part: &mut [u32])
     put(&words, part);
 }
 
-// A stream of a body: its period and its deadline.
-pub fn put_stream(period: u32, deadline: u32, part: &mut [u32])
-    ensures { λ _. ⌜ now (part .exit) ≡ putFront (period ∷ deadline ∷ []) (now (part .entry)) ⌝ }
+// A stream of a body: its period, its deadline and its jitter.
+pub fn put_stream(period: u32, deadline: u32, jitter: u32, part: &mut [u32])
+    ensures { λ _. ⌜ now (part .exit) ≡ putFront (period ∷ deadline ∷ jitter ∷ []) (now (part .entry)) ⌝ }
 {
-    let words = [period, deadline];
+    let words = [period, deadline, jitter];
     put(&words, part);
 }

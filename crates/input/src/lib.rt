@@ -8,7 +8,7 @@ ghost use Rattle.model.specs.Sheet.{Valid};
 ghost use Rattle.input.specs.Input.{wordBytes, wordAt, wordsFrom, allWords, Loaded};
 
 // Words of the longest sheet.
-pub const SHEET_WORDS: usize = 563;
+pub const SHEET_WORDS: usize = 819;
 
 // Words of the replay program's longest second file: the horizon and the longest log.
 pub const SECOND_WORDS: usize = 8193;

@@ -1,7 +1,8 @@
-// Where the words of a sheet stand: accessors over any words, which read 0 past the end, as the definitions do. None asks anything of
-// its caller. Only this crate and `fill`, which puts the words there, know how many words a row or a stream has.
+// Where the words of a sheet stand: accessors over any words, which read 0 past the end, as the definitions do. None but one, for a
+// valid sheet, asks anything of its caller. Only this crate and `fill`, which puts the words there, know how many words a row or a stream has.
 ghost use mathlib.Core.Path.{_≡_};
-ghost use Prim.Native.Nat.{pred, _+_, _*_, _/_, _<_, _^_};
+ghost use Prim.Native.Nat.{pred, _+_, _*_, _/_, _≤_, _<_, _^_};
+ghost use lib.ListN.{length};
 ghost use Rattle.model.specs.Limits.{streamWords};
 ghost use Rattle.model.specs.Sheet.{word, rowAt, place, streamCount, budget, streamsUpTo, firstBodyAt, contentsWords};
 ghost use Rattle.model.specs.Analysis.{streamIn, streamOf};
@@ -83,25 +84,38 @@ pub fn place_in_body(body: u32, j: u32) -> usize
     if j == 0 {
         wide(body)
     } else {
-        wide(body) + 2 * wide(j - 1)
+        wide(body) + 3 * wide(j - 1)
     }
 }
 
 // The words that the bodies of so many streams take.
 pub fn body_words(count: u32) -> usize
-    ensures { λ r. ⌜ (r ≡ streamWords * count) × (r < 2 ^ 33) ⌝ }
+    ensures { λ r. ⌜ (r ≡ streamWords * count) × (r < 2 ^ 34) ⌝ }
 {
-    2 * wide(count)
+    3 * wide(count)
 }
 
 // How many streams have their bodies in so many words.
 pub fn streams_in(words: usize) -> usize
     ensures { λ r. ⌜ r ≡ words / streamWords ⌝ }
 {
-    words / 2
+    words / 3
 }
 
-// The stream with number j whose words stand at a place; 0 past the end.
+// The stream with number j whose words stand at a place, all three of them: nothing is tested.
+pub fn stream_there(sheet: &[u32], at: usize, j: u32) -> Stream
+    requires { ⌜ at + streamWords ≤ length (now sheet) ⌝ }
+    ensures { λ r. ⌜ r ≡ streamIn (now (sheet .entry)) at j ⌝ }
+{
+    Stream {
+        number: j,
+        period: sheet[at],
+        deadline: sheet[at + 1],
+        jitter: sheet[at + 2],
+    }
+}
+
+// The same where they may not be there; 0 past the end.
 pub fn stream_in(sheet: &[u32], at: usize, j: u32) -> Stream
     ensures { λ r. ⌜ r ≡ streamIn (now (sheet .entry)) at j ⌝ }
 {
@@ -110,13 +124,18 @@ pub fn stream_in(sheet: &[u32], at: usize, j: u32) -> Stream
             number: j,
             period: 0,
             deadline: 0,
+            jitter: 0,
         };
     }
-    Stream {
-        number: j,
-        period: sheet[at],
-        deadline: word_at(sheet, at + 1),
+    if sheet.len() - at < 3 {
+        return Stream {
+            number: j,
+            period: sheet[at],
+            deadline: word_at(sheet, at + 1),
+            jitter: word_at(sheet, at + 2),
+        };
     }
+    stream_there(sheet, at, j)
 }
 
 // Stream j of node k.

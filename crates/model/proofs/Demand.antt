@@ -14,3 +14,4 @@ pub mod ReplayDemand
 pub mod Applied
 pub mod Urgent
 pub mod Paired
+pub mod Jittered

@@ -1,4 +1,5 @@
--- Laws about the bus: a node's queue, one turn, the clock, and the run to a horizon.
+-- Laws about the bus: the events of a stream, a node's queue, one turn, the clock, and the run to a horizon.
+pub mod Events
 pub mod Queue
 pub mod Waiting
 pub mod Turn

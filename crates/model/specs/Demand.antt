@@ -11,18 +11,18 @@ use Rattle.model.specs.declared.Answer.{Answer}
 use Rattle.model.specs.declared.Verdict.the-variants.{Listed}
 use Rattle.model.specs.Limits.{notBegun}
 use Rattle.model.specs.Refusal.{success, refuse}
-use Rattle.model.specs.Sheet.{word, budget, cycle, deadline, runningNumber, totalStreams, OnSheet, Valid}
+use Rattle.model.specs.Sheet.{word, budget, cycle, deadline, jitter, runningNumber, totalStreams, OnSheet, Valid}
 use Rattle.model.specs.Analysis.{streamOf, outranks, interference, HasWait, IsLate, higherStreams, timingOf, verdictOf}
-use Rattle.model.specs.Protocol.{releases, releaseTick, releaseStream, KeepsPeriod, stateAt, startOf, nodeOf, TurnsBefore, replayed}
+use Rattle.model.specs.Protocol.{releases, releaseTick, releaseStream, EventsFit, KeepsPeriod, stateAt, startOf, nodeOf, TurnsBefore, replayed}
 use Rattle.model.specs.Answers.{oneStreamAnswer, admitAnswer, admitBuffer, replayAnswer}
 
 -- Stream j of node k has that "listed wait", at J.
 abbrev pub StreamWait : List ℕ → ℕ → ℕ → ℕ → ℕ → Type 0
-StreamWait s k j J wait = HasWait (interference (higherStreams s k j)) (timingOf s k) (deadline s k j) J wait
+StreamWait s k j J wait = HasWait (interference (higherStreams s k j)) (timingOf s k) (streamOf s k j) J wait
 
 -- Stream j of node k is "late".
 abbrev pub StreamLate : List ℕ → ℕ → ℕ → Type 0
-StreamLate s k j = IsLate (interference (higherStreams s k j)) (timingOf s k) (deadline s k j)
+StreamLate s k j = IsLate (interference (higherStreams s k j)) (timingOf s k) (streamOf s k j)
 
 -- What demand 2 says of stream j of node k and what one stream answers for it.
 pub record Judged (s : List ℕ) (k j : ℕ) (answer : Answer) : Type 0 where
@@ -72,7 +72,7 @@ beganWithin words from next i = leb from (word words i) && ltb (word words i) ne
 abbrev pub messagesOf : List ℕ → List ℕ → List ℕ → ℕ → ℕ
 messagesOf s log words i = countBelow (beganWithin words (startOf s log i) (startOf s log (suc i))) (releases log)
 
--- "in that log it and those ranked above it in its node keep their least periods".
+-- "in that log it and those ranked above it in its node keep their least periods": for each of them such events exist.
 pub record PeriodsKept (s log : List ℕ) (k j : ℕ) : Type 0 where
   pub itself : KeepsPeriod s log k j
   pub rankedAbove : (i : ℕ) → OnSheet s k i → outranks (streamOf s k i) (streamOf s k j) ≡ true → KeepsPeriod s log k i
@@ -104,12 +104,19 @@ pub record NextTurn (s log : List ℕ) (a b : ℕ) : Type 0 where
   pub sameNode : nodeOf s log b ≡ nodeOf s log a
   pub noneBetween : (i : ℕ) → a < i → i < b → nodeOf s log i ≡ nodeOf s log a → ⊥
 
--- Release i is a "message of that stream", and its release plus so many ticks "comes before the horizon": its listed wait, or its
--- deadline.
+-- Release i is a "message of that stream", and its release plus so many ticks "comes before the horizon".
 pub record DueBefore (s log : List ℕ) (horizon k j ticks i : ℕ) : Type 0 where
   pub inLog : i < releases log
   pub ofStream : releaseStream log i ≡ runningNumber s k j
   pub inTime : releaseTick log i + ticks < horizon
+
+-- Release i is a "message of that stream", `tick` is its "event plus deadline", where its event is the one named `latest`, and it
+-- "comes before the horizon".
+pub record DueAt (s log : List ℕ) (horizon k j latest tick i : ℕ) : Type 0 where
+  pub inLog : i < releases log
+  pub ofStream : releaseStream log i ≡ runningNumber s k j
+  pub due : tick + jitter s k j ≡ latest + deadline s k j
+  pub inTime : tick < horizon
 
 -- What demand 3, and the promise of delivery, say of a replay that reported so many turns and the next tick, and wrote these words, one a release.
 pub record WholeReplay (s log : List ℕ) (horizon turns next : ℕ) (words : List ℕ) : Type 0 where
@@ -128,13 +135,15 @@ pub record WholeReplay (s log : List ℕ) (horizon turns next : ℕ) (words : Li
       → (i : ℕ)
       → DueBefore s log horizon k j wait i
       → BeginsWithin log words wait i
-  -- "Under the premises of demand 3, every message whose release plus deadline comes before the horizon is delivered by its
-  -- deadline"
+  -- "Under the premises of demand 3, every message whose" event plus deadline "comes before the horizon is delivered by its
+  -- deadline", whichever events are taken that fit
   pub delivered : (k j wait J : ℕ)
       → Premises s log k j wait J
-      → (i : ℕ)
-      → DueBefore s log horizon k j (deadline s k j) i
-      → DeliveredBy s log words i (releaseTick log i + deadline s k j)
+      → (latest : ℕ → ℕ)
+      → EventsFit s log k j latest
+      → (i tick : ℕ)
+      → DueAt s log horizon k j (latest i) tick i
+      → DeliveredBy s log words i tick
 
 -- Demand 3, whole, and the promise of delivery: for any valid sheet, and any log and horizon that the replay accepts, with the numbers
 -- that the replay answers and the words that it writes.

@@ -9,9 +9,9 @@ headerWords = 3
 abbrev pub rowWords : ℕ
 rowWords = 3
 
--- Words of one stream in a body: least period, deadline.
+-- Words of one stream in a body: least period, deadline, jitter.
 abbrev pub streamWords : ℕ
-streamWords = 2
+streamWords = 3
 
 -- Words of one release in a log: tick, running stream number.
 abbrev pub releaseWords : ℕ
@@ -45,8 +45,8 @@ maxReleases = 4_096
 abbrev pub notBegun : ℕ
 notBegun = 4_294_967_295
 
--- Words of the longest valid sheet: most nodes, each with most streams. "over the length of the longest valid sheet (2,252 bytes
--- here)" is over so many words.
+-- Words of the longest valid sheet: most nodes, each with most streams. "over the length of the longest valid sheet" is
+-- over so many words, 3,276 bytes.
 abbrev pub longestSheet : ℕ
 longestSheet = headerWords + rowWords * maxNodes + streamWords * (maxNodes * maxStreams)
 

@@ -10,7 +10,7 @@ use Rattle.theory.specs.Queue.{Queue, firstOnes}
 use Rattle.model.specs.declared.Bus.{Bus}
 use Rattle.model.specs.declared.Stream.{Stream}
 use Rattle.model.specs.Limits.{releaseWords, notBegun}
-use Rattle.model.specs.Sheet.{word, nodes, messageTicks, slotTicks, budget, period, streamsBefore, streamsUpTo, runningNumber}
+use Rattle.model.specs.Sheet.{word, nodes, messageTicks, slotTicks, budget, period, jitter, streamsBefore, streamsUpTo, runningNumber}
 use Rattle.model.specs.Analysis.{streamOf, outranks}
 
 -- The number of releases in a "log": "two words a release: tick, running stream number".
@@ -33,10 +33,21 @@ pub record Successive (log : List ℕ) (r a b : ℕ) : Type 0 where
   pub second : releaseStream log b ≡ r
   pub noneBetween : (i : ℕ) → a < i → i < b → releaseStream log i ≡ r → ⊥
 
--- "a stream keeps its least period in a log if any two successive releases of it there are at least that period apart".
+-- Events that fit the releases of stream j of node k in a log: "Events of a stream are at least a period apart; each message is queued
+-- 0 to jitter ticks after its event." An event is named by the latest tick at which its message may be queued, event + jitter, which
+-- is no negative number also where the event lies before tick 0.
+pub record EventsFit (s log : List ℕ) (k j : ℕ) (latest : ℕ → ℕ) : Type 0 where
+  -- queued not after its latest tick, and not before its event
+  pub notAfter : (i : ℕ) → i < releases log → releaseStream log i ≡ runningNumber s k j → releaseTick log i ≤ latest i
+  pub notBefore : (i : ℕ)
+      → i < releases log
+      → releaseStream log i ≡ runningNumber s k j
+      → latest i ≤ releaseTick log i + jitter s k j
+  pub apart : (a b : ℕ) → Successive log (runningNumber s k j) a b → latest a + period s k j ≤ latest b
+
+-- A stream keeps its least period in a log: "such events exist for the log".
 abbrev pub KeepsPeriod : List ℕ → List ℕ → ℕ → ℕ → Type 0
-KeepsPeriod s log k j =
-    (a b : ℕ) → Successive log (runningNumber s k j) a b → releaseTick log a + period s k j ≤ releaseTick log b
+KeepsPeriod s log k j = (latest : ℕ → ℕ) × EventsFit s log k j latest
 
 -- True where running stream number r is one of node k's.
 unfoldable pub ofNode : List ℕ → ℕ → ℕ → Bool

@@ -5,7 +5,7 @@ use mathlib.Core.Path.{_≡_}
 use mathlib.Core.Bool.{Bool, _||_, not}
 use mathlib.Core.List.{List}
 use lib.ListN.{length, getD}
-use lib.Dec.{ltb, eqb}
+use lib.Dec.{ltb, leb, eqb}
 use Rattle.theory.specs.Sum.{sumTo}
 use Rattle.theory.specs.Listing.{valuesFrom, joinedFrom}
 use Rattle.model.specs.declared.Answer.{Answer}
@@ -97,6 +97,10 @@ period s k j = word s (streamAt s k j)
 abbrev pub deadline : List ℕ → ℕ → ℕ → ℕ
 deadline s k j = word s (streamAt s k j + 1)
 
+-- "jitter" of stream j of node k: "each message is queued 0 to jitter ticks after its event".
+abbrev pub jitter : List ℕ → ℕ → ℕ → ℕ
+jitter s k j = word s (streamAt s k j + 2)
+
 -- The budgets of nodes 1 to k together.
 abbrev pub budgetsUpTo : List ℕ → ℕ → ℕ
 budgetsUpTo s k = sumTo (budget s) k
@@ -124,9 +128,10 @@ ticksOutside message slot = outside 1 maxSlotTicks message || outside 1 maxSlotT
 unfoldable pub countsOutside : ℕ → ℕ → Bool
 countsOutside count budget = ltb maxStreams count || outside 1 maxBudget budget
 
--- True where a stream's period or its deadline is out of range; the deadline is "1 to the period".
-unfoldable pub timesOutside : ℕ → ℕ → Bool
-timesOutside period deadline = outside 1 maxTime period || outside 1 period deadline
+-- True where a stream's period, deadline or jitter is out of range; the deadline is "1 to the period", and the jitter "from 0 to less than
+-- the period".
+unfoldable pub timesOutside : ℕ → ℕ → ℕ → Bool
+timesOutside period deadline jitter = outside 1 maxTime period || outside 1 period deadline || leb period jitter
 
 -- True for "a wrong place, stream count or budget" in the row of node k.
 unfoldable pub rowWrong : List ℕ → ℕ → Bool
@@ -136,9 +141,9 @@ rowWrong s k = not (eqb (place s k) (bodyPlace s k)) || countsOutside (streamCou
 unfoldable pub rowRefusal : List ℕ → ℕ → Answer
 rowRefusal s k = refuseIf (rowWrong s k) (refuse 4 k 0)
 
--- Refusal 5 of one stream, a "period or deadline out of range", at "node, stream".
+-- Refusal 5 of one stream, a "period or deadline out of range" or a jitter, at "node, stream".
 unfoldable pub streamRefusal : List ℕ → ℕ → ℕ → Answer
-streamRefusal s k j = refuseIf (timesOutside (period s k j) (deadline s k j)) (refuse 5 k j)
+streamRefusal s k j = refuseIf (timesOutside (period s k j) (deadline s k j) (jitter s k j)) (refuse 5 k j)
 
 -- Refusal 5 of one node's streams, in order.
 unfoldable pub bodyRefusal : List ℕ → ℕ → Answer

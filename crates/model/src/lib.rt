@@ -23,11 +23,12 @@ pub enum Verdict {
     Listed { wait: u32, cycles: u32 },
 }
 
-// A message stream of a node: its number there, its "least period" and its "deadline".
+// A message stream of a node: its number there, its "least period", its "deadline" and its "jitter".
 pub struct Stream {
     pub number: u32,
     pub period: u32,
     pub deadline: u32,
+    pub jitter: u32,
 }
 
 // What a wait and the late test go by beside the streams above: the full cycle, "C"; the node's budget, "m"; and the ticks of a message and of a

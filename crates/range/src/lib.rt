@@ -31,14 +31,17 @@ pub fn counts_outside(count: u32, budget: u32) -> bool
     is_outside(1, 16, budget)
 }
 
-// A stream's period or its deadline out of range.
-pub fn times_outside(period: u32, deadline: u32) -> bool
-    ensures { λ r. ⌜ r ≡ timesOutside period deadline ⌝ }
+// A stream's period, its deadline or its jitter out of range.
+pub fn times_outside(period: u32, deadline: u32, jitter: u32) -> bool
+    ensures { λ r. ⌜ r ≡ timesOutside period deadline jitter ⌝ }
 {
     if is_outside(1, 1000000000, period) {
         return true;
     }
-    is_outside(1, period, deadline)
+    if is_outside(1, period, deadline) {
+        return true;
+    }
+    period <= jitter
 }
 
 // The refusal where the test holds, and no reason to refuse otherwise.

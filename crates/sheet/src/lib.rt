@@ -83,7 +83,7 @@ fn check_stream(sheet: &[u32], k: u32, j: u32) -> Answer
     ensures { λ r. ⌜ r ≡ streamRefusal (now (sheet .entry)) k j ⌝ }
 {
     let stream = layout::stream_of(sheet, k, j);
-    let wrong = range::times_outside(stream.period, stream.deadline);
+    let wrong = range::times_outside(stream.period, stream.deadline, stream.jitter);
     refuse_if(wrong, 5, k, j)
 }
 

@@ -9,18 +9,17 @@ use Rattle.model.specs.declared.Answer.{Answer}
 use Rattle.model.specs.Refusal.{success, refuse, refuseIf, _orElse_, firstOf, outside}
 use Rattle.model.specs.Sheet.{cycle, ticksOutside, countsOutside, timesOutside, rowWrong, rowRefusal, streamRefusal, bodyRefusal, headerRefusal, sheetRefusal}
 use Rattle.model.specs.Answers.{roomRefusal}
-use Rattle.model.specs.Bench.{sheetA}
 use Rattle.model.proofs.Sheet.ValidSheet.{valid-fits}
 use Rattle.tables.specs.Tables.{Tables, lentTables}
 use Rattle.tables.specs.Writing.{rowOf, streamWordsOf, written, cycleOf, tableRowRefusal, tableStreamRefusal, tableBodyRefusal, contentsRefusal, lengthsDiffer, tablesRefusal, writeAnswer, ReadsBack, WrittenAgain}
 use Rattle.tables.proofs.WriteAgain.{written-again}
 
--- Document 01's sheet A with shorter deadlines in node 1, and its tables.
+-- Document 01's sheet A with shorter deadlines in node 1, and with jitters; and its tables.
 abbrev A : List ℕ
-A = sheetA 40 39 58
+A = 2 ∷ 5 ∷ 1 ∷ 9 ∷ 2 ∷ 1 ∷ 15 ∷ 1 ∷ 2 ∷ 40 ∷ 39 ∷ 7 ∷ 60 ∷ 58 ∷ 8 ∷ 30 ∷ 30 ∷ 29 ∷ []
 
 abbrev tablesA : Tables
-tablesA = lentTables 5 1 (2 ∷ 1 ∷ []) (1 ∷ 2 ∷ []) (40 ∷ 60 ∷ 30 ∷ []) (39 ∷ 58 ∷ 30 ∷ [])
+tablesA = lentTables 5 1 (2 ∷ 1 ∷ []) (1 ∷ 2 ∷ []) (40 ∷ 60 ∷ 30 ∷ []) (39 ∷ 58 ∷ 30 ∷ []) (7 ∷ 8 ∷ 29 ∷ [])
 
 -- Whatever reads back as tables has all words of the sheet that they make:
 pub all-words : (t : Tables) (words c : ℕ) (room : List ℕ) → ReadsBack t words c room → take words room ≡ written t
@@ -29,23 +28,23 @@ all-words t words c room back =
 
 -- of that sheet these, and C.
 pub record WordsOfA (room : List ℕ) (c : ℕ) : Type 0 where
-  pub words : take 15 room ≡ 2 ∷ 5 ∷ 1 ∷ 9 ∷ 2 ∷ 1 ∷ 13 ∷ 1 ∷ 2 ∷ 40 ∷ 39 ∷ 60 ∷ 58 ∷ 30 ∷ 30 ∷ []
+  pub words : take 18 room ≡ A
   pub fullCycle : c ≡ 17
 
-pub read-back-a : (room : List ℕ) (c : ℕ) → ReadsBack tablesA 15 c room → WordsOfA room c
+pub read-back-a : (room : List ℕ) (c : ℕ) → ReadsBack tablesA 18 c room → WordsOfA room c
 unfolding sum upTo valuesFrom joinedFrom cycle rowOf streamWordsOf written
 read-back-a room c back =
-    let words = all-words tablesA 15 c room back in
+    let words = all-words tablesA 18 c room back in
     record { words = words; fullCycle = sym (back .sameCycle) ∙ ap cycle words }
 
--- Its tables, written again: its fifteen words, and its C.
+-- Its tables, written again: its eighteen words, and its C.
 pub record AgainA (a : Answer) (after : List ℕ) : Type 0 where
-  pub answer : a ≡ success 15 17
-  pub words : take 15 after ≡ A
+  pub answer : a ≡ success 18 17
+  pub words : take 18 after ≡ A
 
-pub again-a : (room after : List ℕ) (a : Answer) → 15 ≤ length room → WrittenAgain tablesA room a after → AgainA a after
+pub again-a : (room after : List ℕ) (a : Answer) → 18 ≤ length room → WrittenAgain tablesA room a after → AgainA a after
 unfolding
-    sheetA sum upTo valuesFrom joinedFrom cycle refuseIf _orElse_ firstOf outside
+    sum upTo valuesFrom joinedFrom cycle refuseIf _orElse_ firstOf outside
     ticksOutside countsOutside timesOutside rowWrong rowRefusal streamRefusal bodyRefusal headerRefusal sheetRefusal
 again-a room after a enough again =
     let both = again A refl refl enough in
@@ -53,14 +52,16 @@ again-a room after a enough again =
 
 -- The order of the refusals, where two and more apply, and the room to the word.
 pub record InOrder : Type 0 where
-  pub nodesBeforeTicks : writeAnswer (lentTables 0 1 [] (1 ∷ []) [] []) 0 ≡ refuse 2 0 0
-  pub ticksBeforeLength : writeAnswer (lentTables 5 0 (17 ∷ []) [] [] []) 0 ≡ refuse 3 0 0
-  pub lengthBeforeRow : writeAnswer (lentTables 5 1 (17 ∷ []) [] [] []) 0 ≡ refuse 4 0 0
-  pub rowBeforeStreams : writeAnswer (lentTables 5 1 (1 ∷ 17 ∷ []) (1 ∷ 1 ∷ []) [] []) 0 ≡ refuse 4 2 0
-  pub lengthsBeforeStream : writeAnswer (lentTables 5 1 (1 ∷ []) (1 ∷ []) (10 ∷ []) (11 ∷ 1 ∷ [])) 0 ≡ refuse 4 0 0
-  pub streamBeforeRoom : writeAnswer (lentTables 5 1 (1 ∷ 2 ∷ []) (1 ∷ 1 ∷ []) (10 ∷ 10 ∷ 10 ∷ []) (10 ∷ 10 ∷ 11 ∷ [])) 0 ≡ refuse 5 2 2
-  pub roomLast : writeAnswer (lentTables 5 1 (1 ∷ []) (1 ∷ []) (10 ∷ []) (10 ∷ [])) 7 ≡ refuse 6 0 0
-  pub exactRoom : writeAnswer (lentTables 5 1 (1 ∷ []) (1 ∷ []) (10 ∷ []) (10 ∷ [])) 8 ≡ success 8 6
+  pub nodesBeforeTicks : writeAnswer (lentTables 0 1 [] (1 ∷ []) [] [] []) 0 ≡ refuse 2 0 0
+  pub ticksBeforeLength : writeAnswer (lentTables 5 0 (17 ∷ []) [] [] [] []) 0 ≡ refuse 3 0 0
+  pub lengthBeforeRow : writeAnswer (lentTables 5 1 (17 ∷ []) [] [] [] []) 0 ≡ refuse 4 0 0
+  pub rowBeforeStreams : writeAnswer (lentTables 5 1 (1 ∷ 17 ∷ []) (1 ∷ 1 ∷ []) [] [] []) 0 ≡ refuse 4 2 0
+  pub lengthsBeforeStream : writeAnswer (lentTables 5 1 (1 ∷ []) (1 ∷ []) (10 ∷ []) (11 ∷ 1 ∷ []) (0 ∷ [])) 0 ≡ refuse 4 0 0
+  pub jittersBeforeStream : writeAnswer (lentTables 5 1 (1 ∷ []) (1 ∷ []) (10 ∷ []) (11 ∷ []) []) 0 ≡ refuse 4 0 0
+  pub streamBeforeRoom : writeAnswer (lentTables 5 1 (1 ∷ 2 ∷ []) (1 ∷ 1 ∷ []) (10 ∷ 10 ∷ 10 ∷ []) (10 ∷ 10 ∷ 11 ∷ []) (0 ∷ 0 ∷ 0 ∷ [])) 0 ≡ refuse 5 2 2
+  pub jitterBeforeRoom : writeAnswer (lentTables 5 1 (1 ∷ 2 ∷ []) (1 ∷ 1 ∷ []) (10 ∷ 10 ∷ 10 ∷ []) (10 ∷ 10 ∷ 10 ∷ []) (0 ∷ 9 ∷ 10 ∷ [])) 0 ≡ refuse 5 2 2
+  pub roomLast : writeAnswer (lentTables 5 1 (1 ∷ []) (1 ∷ []) (10 ∷ []) (10 ∷ []) (9 ∷ [])) 8 ≡ refuse 6 0 0
+  pub exactRoom : writeAnswer (lentTables 5 1 (1 ∷ []) (1 ∷ []) (10 ∷ []) (10 ∷ []) (9 ∷ [])) 9 ≡ success 9 6
 
 pub in-order : InOrder
 unfolding
@@ -73,7 +74,9 @@ in-order =
       lengthBeforeRow = refl;
       rowBeforeStreams = refl;
       lengthsBeforeStream = refl;
+      jittersBeforeStream = refl;
       streamBeforeRoom = refl;
+      jitterBeforeRoom = refl;
       roomLast = refl;
       exactRoom = refl;
     }

@@ -28,12 +28,13 @@ pub record TablesFit (t : Tables) : Type 0 where
   pub contents : ContentsFit t
   pub periodsAll : length (t .periods) ≡ sumOf (t .counts)
   pub deadlinesAll : length (t .deadlines) ≡ sumOf (t .counts)
+  pub jittersAll : length (t .jitters) ≡ sumOf (t .counts)
   pub streams : (k j : ℕ)
       → 1 ≤ k
       → k ≤ length (t .counts)
       → 1 ≤ j
       → j ≤ nodeEntry (t .counts) k
-      → timesOutside (streamEntry (t .periods) (countsBefore (t .counts) k) j) (streamEntry (t .deadlines) (countsBefore (t .counts) k) j) ≡ false
+      → timesOutside (streamEntry (t .periods) (countsBefore (t .counts) k) j) (streamEntry (t .deadlines) (countsBefore (t .counts) k) j) (streamEntry (t .jitters) (countsBefore (t .counts) k) j) ≡ false
 
 refuses : (number a b : ℕ) → refuse (suc number) a b .number ≡ 0 → ⊥
 refuses number a b e = omega arith
@@ -69,18 +70,21 @@ tables-fit t e =
     let short = not (eqb (length (t .periods)) (sumOf (t .counts))) in
     let fewer = not (eqb (length (t .deadlines)) (sumOf (t .counts))) in
     let one = orElse-both (contentsRefusal (t .message) (t .slot) (t .counts) (t .budgets)) _ e in
-    let two = orElse-both (refuseIf (short || fewer) (refuse 4 0 0)) _ (one .1) in
-    let both = or-neither short fewer (refuseIf-none (short || fewer) (refuse 4 0 0) (refuses 3 0 0) (two .0)) in
+    let least = not (eqb (length (t .jitters)) (sumOf (t .counts))) in
+    let two = orElse-both (refuseIf (short || fewer || least) (refuse 4 0 0)) _ (one .1) in
+    let all = or-neither (short || fewer) least (refuseIf-none (short || fewer || least) (refuse 4 0 0) (refuses 3 0 0) (two .0)) in
+    let both = or-neither short fewer (all .0) in
     record {
       contents = contents-fit t (one .0);
       periodsAll = same-if _ _ (both .0);
       deadlinesAll = same-if _ _ (both .1);
+      jittersAll = same-if _ _ (all .1);
       streams =
           λ k j low high from to.
           let before = countsBefore (t .counts) k in
-          refuseIf-none (timesOutside (streamEntry (t .periods) before j) (streamEntry (t .deadlines) before j)) (refuse 5 k j) (refuses 4 k j)
-          (first-none (tableStreamRefusal (t .periods) (t .deadlines) before k) 1 (nodeEntry (t .counts) k)
-          (first-none (tableBodyRefusal (t .counts) (t .periods) (t .deadlines)) 1 (length (t .counts)) (two .1) k low (omega arith))
+          refuseIf-none (timesOutside (streamEntry (t .periods) before j) (streamEntry (t .deadlines) before j) (streamEntry (t .jitters) before j)) (refuse 5 k j) (refuses 4 k j)
+          (first-none (tableStreamRefusal (t .periods) (t .deadlines) (t .jitters) before k) 1 (nodeEntry (t .counts) k)
+          (first-none (tableBodyRefusal (t .counts) (t .periods) (t .deadlines) (t .jitters)) 1 (length (t .counts)) (two .1) k low (omega arith))
           j
           from
           (omega arith));
@@ -96,7 +100,7 @@ fit-passes t fit =
     orElse-none _ _ (refuseIf-passes _ (c .ticks)) (
     orElse-none _ _ (refuseIf-passes _ (ap not (eq-eqb _ _ (c .budgetsAll)))) (
     first-all _ 1 (length (t .counts)) (λ k low high. refuseIf-passes _ (c .rows k low (omega arith))))))) (
-    orElse-none _ _ (refuseIf-passes _ (or-second (ap not (eq-eqb _ _ (fit .periodsAll))) (ap not (eq-eqb _ _ (fit .deadlinesAll))))) (
+    orElse-none _ _ (refuseIf-passes _ (or-second (or-second (ap not (eq-eqb _ _ (fit .periodsAll))) (ap not (eq-eqb _ _ (fit .deadlinesAll)))) (ap not (eq-eqb _ _ (fit .jittersAll))))) (
     first-all _ 1 (length (t .counts)) (
     λ k low high.
     first-all _ 1 (nodeEntry (t .counts) k) (λ j from to. refuseIf-passes _ (fit .streams k j low (omega arith) from (omega arith))))))

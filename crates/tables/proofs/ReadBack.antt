@@ -8,7 +8,7 @@ use mathlib.Core.List.{List}
 use lib.ListN.{length}
 use Rattle.theory.proofs.Sums.{sumTo-same, sumTo-split, sumTo-grows}
 use Rattle.model.specs.Limits.{streamWords}
-use Rattle.model.specs.Sheet.{word, nodes, messageTicks, slotTicks, rowAt, place, streamCount, budget, streamsUpTo, streamsBefore, totalStreams, budgetsUpTo, firstBodyAt, bodyAt, period, deadline, cycle, cycleTicks, OnSheet, Valid}
+use Rattle.model.specs.Sheet.{word, nodes, messageTicks, slotTicks, rowAt, place, streamCount, budget, streamsUpTo, streamsBefore, totalStreams, budgetsUpTo, firstBodyAt, bodyAt, period, deadline, jitter, cycle, cycleTicks, OnSheet, Valid}
 use Rattle.model.proofs.Sheet.ValidSheet.{HeaderFits, RowFits, StreamFits, ticks-within, counts-within, times-within, fits-valid}
 use Rattle.tables.specs.Tables.{Tables, tablesOf, nodeEntry, sumUpTo, sumOf, countsBefore, streamEntry}
 use Rattle.tables.specs.Writing.{rowOf, streamWordsOf, written, cycleOf}
@@ -71,6 +71,14 @@ module _ (t : Tables) where
       let here : place w k + streamWords * pred j + 1 ≡ firstBodyAt n + (streamWords * q + 1) = omega (arith, at .0) in
       ap (word w) here ∙ written-stream t q 1 (at .1) (omega arith)
 
+  jitter-read : (k j : ℕ) → OnSheet w k j → jitter w k j ≡ streamEntry (t .jitters) (countsBefore (t .counts) k) j
+  unfolding streamWordsOf
+  jitter-read k j on =
+      let at = at-stream k j on in
+      let q = countsBefore (t .counts) k + pred j in
+      let here : place w k + streamWords * pred j + 2 ≡ firstBodyAt n + (streamWords * q + 2) = omega (arith, at .0) in
+      ap (word w) here ∙ written-stream t q 2 (at .1) (omega arith)
+
   module _ (fit : TablesFit t) where
     header : HeaderFits w
     header =
@@ -107,11 +115,13 @@ module _ (t : Tables) where
         let times = times-within (fit .streams k j (on .nodeFrom) high (on .streamFrom) (omega (arith, few, on .streamTo))) in
         let p = period-read k j on in
         let d = deadline-read k j on in
+        let q = jitter-read k j on in
         record {
           periodFrom = omega (arith, p, times .0);
           periodTo = omega (arith, p, times .1);
           deadlineFrom = omega (arith, d, times .2);
           deadlineTo = omega (arith, p, d, times .3);
+          jitterBelow = omega (arith, p, q, times .4);
         }
 
     -- The sheet is valid.
@@ -140,6 +150,9 @@ module _ (t : Tables) where
         let deadlines : tablesOf w .deadlines ≡ t .deadlines =
         streams-read w (deadline w) (t .deadlines) (fit .deadlinesAll ∙ sym total-sum) (
         λ k j on. deadline-read k j on ∙ ap (λ b. streamEntry (t .deadlines) b j) (sym (before k j on))) in
+        let jitters : tablesOf w .jitters ≡ t .jitters =
+        streams-read w (jitter w) (t .jitters) (fit .jittersAll ∙ sym total-sum) (
+        λ k j on. jitter-read k j on ∙ ap (λ b. streamEntry (t .jitters) b j) (sym (before k j on))) in
         λ i.
         record {
           message = written-message t i;
@@ -148,6 +161,7 @@ module _ (t : Tables) where
           budgets = budgets i;
           periods = periods i;
           deadlines = deadlines i;
+          jitters = jitters i;
         }
 
     -- "C" of the sheet is that of the tables.

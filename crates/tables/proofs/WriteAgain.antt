@@ -11,7 +11,7 @@ use lib.Seq.{ext-getD}
 use Rattle.theory.proofs.Listing.{values-length, located}
 use Rattle.theory.proofs.Sums.{sumTo-same}
 use Rattle.model.specs.Limits.{headerWords, rowWords, streamWords}
-use Rattle.model.specs.Sheet.{word, nodes, rowAt, place, streamCount, budget, streamsUpTo, streamsBefore, totalStreams, budgetsUpTo, firstBodyAt, bodyAt, contentsWords, period, deadline, cycle, cycleTicks, OnSheet}
+use Rattle.model.specs.Sheet.{word, nodes, rowAt, place, streamCount, budget, streamsUpTo, streamsBefore, totalStreams, budgetsUpTo, firstBodyAt, bodyAt, contentsWords, period, deadline, jitter, cycle, cycleTicks, OnSheet}
 use Rattle.model.proofs.Sheet.ValidSheet.{SheetFits, ticks-inside, counts-inside, times-inside}
 use Rattle.model.proofs.Sheet.SheetOrder.{ordered-length, StreamAfter, stream-after}
 use Rattle.tables.specs.Tables.{Tables, tablesOf, nodeEntry, sumUpTo, sumOf, countsBefore}
@@ -69,14 +69,20 @@ module _ (s : List ℕ) (fits : SheetFits s) where
         contents = tables-contents;
         periodsAll = ordered-length s (period s) ∙ sym sum-total;
         deadlinesAll = ordered-length s (deadline s) ∙ sym sum-total;
+        jittersAll = ordered-length s (jitter s) ∙ sym sum-total;
         streams =
             λ k j low to from few.
             let high : k ≤ nodes s = omega (arith, nodes-all, to) in
             let on : OnSheet s k j =
             record { nodeFrom = low; nodeTo = high; streamFrom = from; streamTo = omega (arith, count-value k low high, few) } in
             let f = fits .streams k j on in
-            rw (sum-streams (pred k) (omega (arith, high)), stream-value s (period s) k j on, stream-value s (deadline s) k j on)
-            (times-inside (f .periodFrom) (f .periodTo) (f .deadlineFrom) (f .deadlineTo));
+            rw (
+              sum-streams (pred k) (omega (arith, high)),
+              stream-value s (period s) k j on,
+              stream-value s (deadline s) k j on,
+              stream-value s (jitter s) k j on,
+            )
+            (times-inside (f .periodFrom) (f .periodTo) (f .deadlineFrom) (f .deadlineTo) (f .jitterBelow));
       })
 
   -- Word r of node k's row,
@@ -95,7 +101,7 @@ module _ (s : List ℕ) (fits : SheetFits s) where
   stream-words : (q r : ℕ)
       → q < totalStreams s
       → r < streamWords
-      → word (streamWordsOf (t .periods) (t .deadlines) q) r ≡ word s (contentsWords s + (streamWords * q + r))
+      → word (streamWordsOf (t .periods) (t .deadlines) (t .jitters) q) r ≡ word s (contentsWords s + (streamWords * q + r))
   unfolding streamWordsOf
   stream-words q r few inside = go r inside
     where
@@ -111,14 +117,17 @@ module _ (s : List ℕ) (fits : SheetFits s) where
       placed : place s k ≡ contentsWords s + streamWords * streamsBefore s k
       placed = fits .rows k (one .on .nodeFrom) (one .on .nodeTo) .placed
 
-      go : (r : ℕ) → r < streamWords → word (streamWordsOf (t .periods) (t .deadlines) q) r ≡ word s (contentsWords s + (streamWords * q + r))
+      go : (r : ℕ) → r < streamWords → word (streamWordsOf (t .periods) (t .deadlines) (t .jitters) q) r ≡ word s (contentsWords s + (streamWords * q + r))
       go zero inside =
           let here : place s k + streamWords * pred j ≡ contentsWords s + (streamWords * q + 0) = omega (arith, placed, one .same) in
           ap (word (t .periods)) (sym (one .same)) ∙ stream-value s (period s) k j (one .on) ∙ ap (word s) here
       go (suc zero) inside =
           let here : place s k + streamWords * pred j + 1 ≡ contentsWords s + (streamWords * q + 1) = omega (arith, placed, one .same) in
           ap (word (t .deadlines)) (sym (one .same)) ∙ stream-value s (deadline s) k j (one .on) ∙ ap (word s) here
-      go (suc (suc r)) inside = absurd (omega arith)
+      go (suc (suc zero)) inside =
+          let here : place s k + streamWords * pred j + 2 ≡ contentsWords s + (streamWords * q + 2) = omega (arith, placed, one .same) in
+          ap (word (t .jitters)) (sym (one .same)) ∙ stream-value s (jitter s) k j (one .on) ∙ ap (word s) here
+      go (suc (suc (suc r))) inside = absurd (omega arith)
 
   -- A word after the header is in a row,
   in-a-row : (i : ℕ) → i < rowWords * nodes s → word (written t) (headerWords + i) ≡ word s (headerWords + i)
@@ -135,9 +144,9 @@ module _ (s : List ℕ) (fits : SheetFits s) where
   -- and one after the contents is in a body.
   in-a-body : (i : ℕ) → i < streamWords * totalStreams s → word (written t) (contentsWords s + i) ≡ word s (contentsWords s + i)
   in-a-body i inside =
-      let one = located (streamWordsOf (t .periods) (t .deadlines)) (λ q. streamWords * q) 0 (totalStreams s) i (stream-follows (t .periods) (t .deadlines) 0) (omega (arith, inside)) in
+      let one = located (streamWordsOf (t .periods) (t .deadlines) (t .jitters)) (λ q. streamWords * q) 0 (totalStreams s) i (stream-follows (t .periods) (t .deadlines) (t .jitters) 0) (omega (arith, inside)) in
       let few : one .list < totalStreams s = omega (arith, one .high) in
-      let r : one .place < streamWords = omega (arith, one .inside, stream-length (t .periods) (t .deadlines) (one .list)) in
+      let r : one .place < streamWords = omega (arith, one .inside, stream-length (t .periods) (t .deadlines) (t .jitters) (one .list)) in
       let at : contentsWords s + i ≡ contentsWords s + (streamWords * one .list + one .place) = omega (arith, one .same) in
       let there : contentsWords s + (streamWords * one .list + one .place) ≡ firstBodyAt (length (t .counts)) + (streamWords * one .list + one .place) = omega (arith, nodes-all) in
       ap (word (written t)) (at ∙ there)

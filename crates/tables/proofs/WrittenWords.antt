@@ -19,16 +19,16 @@ pub row-length : (counts budgets : List ℕ) (k : ℕ) → length (rowOf counts 
 unfolding rowOf
 row-length counts budgets k = refl
 
-pub stream-length : (periods deadlines : List ℕ) (i : ℕ) → length (streamWordsOf periods deadlines i) ≡ streamWords
+pub stream-length : (periods deadlines jitters : List ℕ) (i : ℕ) → length (streamWordsOf periods deadlines jitters i) ≡ streamWords
 unfolding streamWordsOf
-stream-length periods deadlines i = refl
+stream-length periods deadlines jitters i = refl
 
 -- Each row, each stream and each body stands after those before it.
 pub row-follows : (counts budgets : List ℕ) (k : ℕ) → 1 ≤ k → rowWords * pred (suc k) ≡ rowWords * pred k + length (rowOf counts budgets k)
 row-follows counts budgets k low = omega (arith, low, row-length counts budgets k)
 
-pub stream-follows : (periods deadlines : List ℕ) (from k : ℕ) → from ≤ k → streamWords * suc k ≡ streamWords * k + length (streamWordsOf periods deadlines k)
-stream-follows periods deadlines from k low = omega (arith, stream-length periods deadlines k)
+pub stream-follows : (periods deadlines jitters : List ℕ) (from k : ℕ) → from ≤ k → streamWords * suc k ≡ streamWords * k + length (streamWordsOf periods deadlines jitters k)
+stream-follows periods deadlines jitters from k low = omega (arith, stream-length periods deadlines jitters k)
 
 pub counts-follow : (counts : List ℕ) (k : ℕ) → 1 ≤ k → countsBefore counts (suc k) ≡ countsBefore counts k + nodeEntry counts k
 counts-follow counts k low = sumTo-split (nodeEntry counts) k low
@@ -39,23 +39,23 @@ rows-length counts budgets n =
     let after : pred (1 + n) ≡ n = omega arith in
     omega (arith, joined-length (rowOf counts budgets) (λ k. rowWords * pred k) 1 n (row-follows counts budgets), after)
 
-pub streams-length : (periods deadlines : List ℕ) (from count : ℕ) → length (joinedFrom (streamWordsOf periods deadlines) from count) ≡ streamWords * count
-streams-length periods deadlines from count =
-    omega (arith, joined-length (streamWordsOf periods deadlines) (λ i. streamWords * i) from count (stream-follows periods deadlines from))
+pub streams-length : (periods deadlines jitters : List ℕ) (from count : ℕ) → length (joinedFrom (streamWordsOf periods deadlines jitters) from count) ≡ streamWords * count
+streams-length periods deadlines jitters from count =
+    omega (arith, joined-length (streamWordsOf periods deadlines jitters) (λ i. streamWords * i) from count (stream-follows periods deadlines jitters from))
 
 -- The bodies of so many nodes have so many words.
-pub bodies-length : (counts periods deadlines : List ℕ) (n : ℕ)
-    → length (joinedFrom (λ k. bodyOf periods deadlines (countsBefore counts k) (nodeEntry counts k)) 1 n) ≡ streamWords * sumUpTo counts n
-bodies-length counts periods deadlines n =
+pub bodies-length : (counts periods deadlines jitters : List ℕ) (n : ℕ)
+    → length (joinedFrom (λ k. bodyOf periods deadlines jitters (countsBefore counts k) (nodeEntry counts k)) 1 n) ≡ streamWords * sumUpTo counts n
+bodies-length counts periods deadlines jitters n =
     let after : pred (1 + n) ≡ n = omega arith in
     omega (
       arith,
       joined-length
-          (λ k. bodyOf periods deadlines (countsBefore counts k) (nodeEntry counts k))
+          (λ k. bodyOf periods deadlines jitters (countsBefore counts k) (nodeEntry counts k))
           (λ k. streamWords * countsBefore counts k)
           1
           n
-          (λ k low. omega (arith, counts-follow counts k low, streams-length periods deadlines (countsBefore counts k) (nodeEntry counts k))),
+          (λ k low. omega (arith, counts-follow counts k low, streams-length periods deadlines jitters (countsBefore counts k) (nodeEntry counts k))),
       sumTo-none (nodeEntry counts),
       ap (sumUpTo counts) after,
     )
@@ -68,7 +68,7 @@ module _ (t : Tables) where
   total = sumOf (t .counts)
 
   abbrev streams : List ℕ
-  streams = joinedFrom (streamWordsOf (t .periods) (t .deadlines)) 0 total
+  streams = joinedFrom (streamWordsOf (t .periods) (t .deadlines) (t .jitters)) 0 total
 
   -- The bodies are the streams of all nodes, one after the other.
   bodies-streams : bodiesOf t ≡ streams
@@ -76,10 +76,10 @@ module _ (t : Tables) where
       let none = sumTo-none (nodeEntry (t .counts)) in
       let after : pred (1 + n) ≡ n = omega arith in
       let all : countsBefore (t .counts) 1 + total ≡ countsBefore (t .counts) (1 + n) = omega (arith, none, ap (sumUpTo (t .counts)) after) in
-      joined-stretches (streamWordsOf (t .periods) (t .deadlines)) (countsBefore (t .counts)) (nodeEntry (t .counts)) 1 n total
+      joined-stretches (streamWordsOf (t .periods) (t .deadlines) (t .jitters)) (countsBefore (t .counts)) (nodeEntry (t .counts)) 1 n total
       (counts-follow (t .counts))
       all
-      ∙ ap (λ from. joinedFrom (streamWordsOf (t .periods) (t .deadlines)) from total) none
+      ∙ ap (λ from. joinedFrom (streamWordsOf (t .periods) (t .deadlines) (t .jitters)) from total) none
 
   -- A written sheet ends with its last body.
   pub written-length : length (written t) ≡ bodyAt n total
@@ -90,7 +90,7 @@ module _ (t : Tables) where
         length-append (headerOf t ++ rowsOf t) (bodiesOf t),
         length-append (headerOf t) (rowsOf t),
         rows-length (t .counts) (t .budgets) n,
-        bodies-length (t .counts) (t .periods) (t .deadlines) n,
+        bodies-length (t .counts) (t .periods) (t .deadlines) (t .jitters) n,
       )
 
   -- The header's words.
@@ -131,7 +131,7 @@ module _ (t : Tables) where
   pub written-stream : (q r : ℕ)
       → q < total
       → r < streamWords
-      → word (written t) (firstBodyAt n + (streamWords * q + r)) ≡ word (streamWordsOf (t .periods) (t .deadlines) q) r
+      → word (written t) (firstBodyAt n + (streamWords * q + r)) ≡ word (streamWordsOf (t .periods) (t .deadlines) (t .jitters) q) r
   written-stream q r few inside =
       let long = rows-length (t .counts) (t .budgets) n in
       let at : firstBodyAt n + (streamWords * q + r) ≡ headerWords + (length (rowsOf t) + (streamWords * q + r)) = omega (arith, long) in
@@ -139,9 +139,9 @@ module _ (t : Tables) where
       ∙ after-header (length (rowsOf t) + (streamWords * q + r))
       ∙ getD-append-add (rowsOf t) (bodiesOf t) (streamWords * q + r) 0
       ∙ ap (λ ws. word ws (streamWords * q + r)) bodies-streams
-      ∙ joined-at (streamWordsOf (t .periods) (t .deadlines)) (λ i. streamWords * i) 0 total q r (streamWords * q + r)
-      (stream-follows (t .periods) (t .deadlines) 0)
+      ∙ joined-at (streamWordsOf (t .periods) (t .deadlines) (t .jitters)) (λ i. streamWords * i) 0 total q r (streamWords * q + r)
+      (stream-follows (t .periods) (t .deadlines) (t .jitters) 0)
       (omega arith)
       (omega (arith, few))
-      (omega (arith, inside, stream-length (t .periods) (t .deadlines) q))
+      (omega (arith, inside, stream-length (t .periods) (t .deadlines) (t .jitters) q))
       (omega arith)

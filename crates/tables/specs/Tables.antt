@@ -1,14 +1,14 @@
--- "lent tables of counts, budgets, periods and deadlines": what a sheet says without where its words stand, and how a sheet is read
--- into them. Rules 4.6. Assumes nothing.
+-- "lent tables of counts, budgets, periods and deadlines", and "jitters like periods": what a sheet says without where its words stand, and
+-- how a sheet is read into them. Rules 4.6. Assumes nothing.
 use Prim.Native.Nat.{ℕ, pred, _+_}
 use mathlib.Core.List.{List}
 use lib.ListN.{length}
 use Rattle.theory.specs.Sum.{sumTo}
 use Rattle.theory.specs.Listing.{valuesFrom}
-use Rattle.model.specs.Sheet.{word, nodes, messageTicks, slotTicks, streamCount, budget, period, deadline, inSheetOrder}
+use Rattle.model.specs.Sheet.{word, nodes, messageTicks, slotTicks, streamCount, budget, period, deadline, jitter, inSheetOrder}
 
--- "TMS" and "TPR"; of each node its number of streams ("counts") and its budget; of each stream, in sheet order, its least period and
--- its deadline.
+-- "TMS" and "TPR"; of each node its number of streams ("counts") and its budget; of each stream, in sheet order, its least period, its
+-- deadline and its jitter.
 pub record Tables : Type 0 where
   pub message : ℕ
   pub slot : ℕ
@@ -16,11 +16,20 @@ pub record Tables : Type 0 where
   pub budgets : List ℕ
   pub periods : List ℕ
   pub deadlines : List ℕ
+  pub jitters : List ℕ
 
--- The two numbers and four lent tables of the writer, in its order.
-abbrev pub lentTables : ℕ → ℕ → List ℕ → List ℕ → List ℕ → List ℕ → Tables
-lentTables message slot counts budgets periods deadlines =
-    record { message = message; slot = slot; counts = counts; budgets = budgets; periods = periods; deadlines = deadlines }
+-- The two numbers and five lent tables of the writer, in its order.
+abbrev pub lentTables : ℕ → ℕ → List ℕ → List ℕ → List ℕ → List ℕ → List ℕ → Tables
+lentTables message slot counts budgets periods deadlines jitters =
+    record {
+      message = message;
+      slot = slot;
+      counts = counts;
+      budgets = budgets;
+      periods = periods;
+      deadlines = deadlines;
+      jitters = jitters;
+    }
 
 -- What a table of nodes has for node k, from 1.
 abbrev pub nodeEntry : List ℕ → ℕ → ℕ
@@ -52,4 +61,5 @@ tablesOf s =
       budgets = valuesFrom (budget s) 1 (nodes s);
       periods = inSheetOrder s (period s);
       deadlines = inSheetOrder s (deadline s);
+      jitters = inSheetOrder s (jitter s);
     }

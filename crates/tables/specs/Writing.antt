@@ -22,13 +22,13 @@ headerOf t = length (t .counts) ∷ t .message ∷ t .slot ∷ []
 unfoldable pub rowOf : List ℕ → List ℕ → ℕ → List ℕ
 rowOf counts budgets k = bodyAt (length counts) (countsBefore counts k) ∷ nodeEntry counts k ∷ nodeEntry budgets k ∷ []
 
--- The words of the stream that i others come before: its least period and its deadline.
-unfoldable pub streamWordsOf : List ℕ → List ℕ → ℕ → List ℕ
-streamWordsOf periods deadlines i = word periods i ∷ word deadlines i ∷ []
+-- The words of the stream that i others come before: its least period, its deadline and its jitter.
+unfoldable pub streamWordsOf : List ℕ → List ℕ → List ℕ → ℕ → List ℕ
+streamWordsOf periods deadlines jitters i = word periods i ∷ word deadlines i ∷ word jitters i ∷ []
 
 -- A body: the words of `count` streams, the first of which `before` others come before.
-abbrev pub bodyOf : List ℕ → List ℕ → ℕ → ℕ → List ℕ
-bodyOf periods deadlines before count = joinedFrom (streamWordsOf periods deadlines) before count
+abbrev pub bodyOf : List ℕ → List ℕ → List ℕ → ℕ → ℕ → List ℕ
+bodyOf periods deadlines jitters before count = joinedFrom (streamWordsOf periods deadlines jitters) before count
 
 -- All contents rows.
 abbrev pub rowsOf : Tables → List ℕ
@@ -38,7 +38,7 @@ rowsOf t = joinedFrom (rowOf (t .counts) (t .budgets)) 1 (length (t .counts))
 abbrev pub bodiesOf : Tables → List ℕ
 bodiesOf t =
     joinedFrom
-    (λ k. bodyOf (t .periods) (t .deadlines) (countsBefore (t .counts) k) (nodeEntry (t .counts) k))
+    (λ k. bodyOf (t .periods) (t .deadlines) (t .jitters) (countsBefore (t .counts) k) (nodeEntry (t .counts) k))
     1
     (length (t .counts))
 
@@ -55,14 +55,14 @@ unfoldable pub tableRowRefusal : List ℕ → List ℕ → ℕ → Answer
 tableRowRefusal counts budgets k = refuseIf (countsOutside (nodeEntry counts k) (nodeEntry budgets k)) (refuse 4 k 0)
 
 -- Refusal 5 of stream j of node k, which `before` streams come before.
-unfoldable pub tableStreamRefusal : List ℕ → List ℕ → ℕ → ℕ → ℕ → Answer
-tableStreamRefusal periods deadlines before k j =
-    refuseIf (timesOutside (streamEntry periods before j) (streamEntry deadlines before j)) (refuse 5 k j)
+unfoldable pub tableStreamRefusal : List ℕ → List ℕ → List ℕ → ℕ → ℕ → ℕ → Answer
+tableStreamRefusal periods deadlines jitters before k j =
+    refuseIf (timesOutside (streamEntry periods before j) (streamEntry deadlines before j) (streamEntry jitters before j)) (refuse 5 k j)
 
 -- Refusal 5 of node k's streams, in order.
-unfoldable pub tableBodyRefusal : List ℕ → List ℕ → List ℕ → ℕ → Answer
-tableBodyRefusal counts periods deadlines k =
-    firstOf (tableStreamRefusal periods deadlines (countsBefore counts k) k) 1 (nodeEntry counts k)
+unfoldable pub tableBodyRefusal : List ℕ → List ℕ → List ℕ → List ℕ → ℕ → Answer
+tableBodyRefusal counts periods deadlines jitters k =
+    firstOf (tableStreamRefusal periods deadlines jitters (countsBefore counts k) k) 1 (nodeEntry counts k)
 
 -- Refusals 2 and 3, and 4 "at 0 0 if budgets and counts differ in length, then at (node, 0) for a row".
 unfoldable pub contentsRefusal : ℕ → ℕ → List ℕ → List ℕ → Answer
@@ -72,17 +72,17 @@ contentsRefusal message slot counts budgets =
     orElse refuseIf (not (eqb (length budgets) (length counts))) (refuse 4 0 0)
     orElse firstOf (tableRowRefusal counts budgets) 1 (length counts)
 
--- True where "periods or deadlines are not as long as the counts' sum".
-unfoldable pub lengthsDiffer : ℕ → ℕ → ℕ → Bool
-lengthsDiffer periods deadlines total = not (eqb periods total) || not (eqb deadlines total)
+-- True where "periods or deadlines", or jitters, "are not as long as the counts' sum".
+unfoldable pub lengthsDiffer : ℕ → ℕ → ℕ → ℕ → Bool
+lengthsDiffer periods deadlines jitters total = not (eqb periods total) || not (eqb deadlines total) || not (eqb jitters total)
 
 -- Refusals 2 to 5 of tables, in their order: 4 at 0 0 for the lengths after the rows, then 5, the first in sheet order. Accepted for
 -- tables that make a valid sheet.
 unfoldable pub tablesRefusal : Tables → Answer
 tablesRefusal t =
     contentsRefusal (t .message) (t .slot) (t .counts) (t .budgets)
-    orElse refuseIf (lengthsDiffer (length (t .periods)) (length (t .deadlines)) (sumOf (t .counts))) (refuse 4 0 0)
-    orElse firstOf (tableBodyRefusal (t .counts) (t .periods) (t .deadlines)) 1 (length (t .counts))
+    orElse refuseIf (lengthsDiffer (length (t .periods)) (length (t .deadlines)) (length (t .jitters)) (sumOf (t .counts))) (refuse 4 0 0)
+    orElse firstOf (tableBodyRefusal (t .counts) (t .periods) (t .deadlines) (t .jitters)) 1 (length (t .counts))
 
 -- The writer's answer, with a buffer of so many words: "the words written and C". Refusals 2, 3, 4, 5, 6.
 unfoldable pub writeAnswer : Tables → ℕ → Answer

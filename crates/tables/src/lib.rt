@@ -89,23 +89,41 @@ fn check_contents(message: u32, slot: u32, counts: &[u32], budgets: &[u32]) -> A
 }
 
 // Refusal 5 of stream j of node k, which `before` streams come before.
-fn check_stream(periods: &[u32], deadlines: &[u32], before: usize, k: u32, j: u32) -> Answer
+fn check_stream(
+    periods: &[u32],
+    deadlines: &[u32],
+    jitters: &[u32],
+    before: usize,
+    k: u32,
+    j: u32,
+) -> Answer
     requires { ⌜ (1 ≤ j) × (before + j < 2 ^ 64) ⌝ }
-    ensures { λ r. ⌜ r ≡ tableStreamRefusal (now (periods .entry)) (now (deadlines .entry)) before k j ⌝ }
+    ensures { λ r. ⌜ r ≡ tableStreamRefusal (now (periods .entry)) (now (deadlines .entry)) (now (jitters .entry)) before k j ⌝ }
 {
     let at = before + wide(j - 1);
-    let wrong = range::times_outside(word_at(periods, at), word_at(deadlines, at));
+    let wrong = range::times_outside(
+        word_at(periods, at),
+        word_at(deadlines, at),
+        word_at(jitters, at),
+    );
     refuse_if(wrong, 5, k, j)
 }
 
 // Refusal 5 of node k's streams, `count` of them.
-fn check_body(periods: &[u32], deadlines: &[u32], before: usize, k: u32, count: u32) -> Answer
+fn check_body(
+    periods: &[u32],
+    deadlines: &[u32],
+    jitters: &[u32],
+    before: usize,
+    k: u32,
+    count: u32,
+) -> Answer
     requires { ⌜ before + count < 2 ^ 64 ⌝ }
-    ensures { λ r. ⌜ r ≡ firstOf (tableStreamRefusal (now (periods .entry)) (now (deadlines .entry)) before k) 1 count ⌝ }
+    ensures { λ r. ⌜ r ≡ firstOf (tableStreamRefusal (now (periods .entry)) (now (deadlines .entry)) (now (jitters .entry)) before k) 1 count ⌝ }
 {
     let mut i: u32 = 0;
     while i < count {
-        let stream = check_stream(periods, deadlines, before, k, i + 1);
+        let stream = check_stream(periods, deadlines, jitters, before, k, i + 1);
         if stream.number != 0 {
             return stream;
         }
@@ -119,14 +137,20 @@ fn check_body(periods: &[u32], deadlines: &[u32], before: usize, k: u32, count: 
 }
 
 // Refusal 5 of the streams of nodes 1 to n.
-fn check_bodies(counts: &[u32], periods: &[u32], deadlines: &[u32], n: u32) -> Answer
-    ensures { λ r. ⌜ r ≡ firstOf (tableBodyRefusal (now (counts .entry)) (now (periods .entry)) (now (deadlines .entry))) 1 n ⌝ }
+fn check_bodies(
+    counts: &[u32],
+    periods: &[u32],
+    deadlines: &[u32],
+    jitters: &[u32],
+    n: u32,
+) -> Answer
+    ensures { λ r. ⌜ r ≡ firstOf (tableBodyRefusal (now (counts .entry)) (now (periods .entry)) (now (deadlines .entry)) (now (jitters .entry))) 1 n ⌝ }
 {
     let mut before: usize = 0;
     let mut i: u32 = 0;
     while i < n {
         let count = node_entry(counts, i + 1);
-        let body = check_body(periods, deadlines, before, i + 1, count);
+        let body = check_body(periods, deadlines, jitters, before, i + 1, count);
         if body.number != 0 {
             return body;
         }
@@ -140,14 +164,17 @@ fn check_bodies(counts: &[u32], periods: &[u32], deadlines: &[u32], n: u32) -> A
     }
 }
 
-// Periods or deadlines that are not as many as the streams.
-fn lengths_differ(periods: usize, deadlines: usize, total: usize) -> bool
-    ensures { λ r. ⌜ r ≡ lengthsDiffer periods deadlines total ⌝ }
+// Periods, deadlines or jitters that are not as many as the streams.
+fn lengths_differ(periods: usize, deadlines: usize, jitters: usize, total: usize) -> bool
+    ensures { λ r. ⌜ r ≡ lengthsDiffer periods deadlines jitters total ⌝ }
 {
     if periods != total {
         return true;
     }
-    deadlines != total
+    if deadlines != total {
+        return true;
+    }
+    jitters != total
 }
 
 // Refusals 2 to 5 of tables, or 0, 0, 0 for tables that make a valid sheet.
@@ -158,8 +185,9 @@ pub fn check_tables(
     budgets: &[u32],
     periods: &[u32],
     deadlines: &[u32],
+    jitters: &[u32],
 ) -> Answer
-    ensures { λ r. ⌜ r ≡ tablesRefusal (lentTables message slot (now (counts .entry)) (now (budgets .entry)) (now (periods .entry)) (now (deadlines .entry))) ⌝ }
+    ensures { λ r. ⌜ r ≡ tablesRefusal (lentTables message slot (now (counts .entry)) (now (budgets .entry)) (now (periods .entry)) (now (deadlines .entry)) (now (jitters .entry))) ⌝ }
 {
     let contents = check_contents(message, slot, counts, budgets);
     if contents.number != 0 {
@@ -168,7 +196,7 @@ pub fn check_tables(
     let n = counts.len() as u32;
     let total = sum_up_to(counts, n);
     let lengths = refuse_if(
-        lengths_differ(periods.len(), deadlines.len(), total),
+        lengths_differ(periods.len(), deadlines.len(), jitters.len(), total),
         4,
         0,
         0,
@@ -176,5 +204,5 @@ pub fn check_tables(
     if lengths.number != 0 {
         return lengths;
     }
-    check_bodies(counts, periods, deadlines, n)
+    check_bodies(counts, periods, deadlines, jitters, n)
 }

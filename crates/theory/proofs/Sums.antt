@@ -6,9 +6,8 @@ use native.Mathlib.Decide.{le-ind}
 use native.Mathlib.Omega.{arith}
 use mathlib.Core.Path.{_≡_, refl, sym, ap}
 use mathlib.Core.Logic.{⊎-elim}
-use mathlib.Core.List.{List, [], _∷_, map, List·Memᴰ, List·Memᴰ·head, List·Memᴰ·tail, List·Memᴰ·cases-cons, List·Memᴰ·not-nil}
-use lib.ListN.{length, getD, drop, drop-of-length-le}
-use lib.Seq.{drop-cons}
+use mathlib.Core.List.{List, [], _∷_, List·Memᴰ, List·Memᴰ·head, List·Memᴰ·tail, List·Memᴰ·cases-cons, List·Memᴰ·not-nil}
+use lib.ListN.{length}
 use Rattle.theory.specs.Sum.{sum, upTo, sumTo}
 
 module _ {A : Type 0} where
@@ -37,12 +36,6 @@ module _ {A : Type 0} where
   sum-const c [] = omega arith
   sum-const c (y ∷ ys) = omega (arith, sum-const c ys)
 
--- The sum over what a list is made into.
-pub sum-map : {A B : Type 0} (f : B → ℕ) (g : A → B) (ys : List A) → sum f (map g ys) ≡ sum (λ y. f (g y)) ys
-unfolding sum
-sum-map f g [] = refl
-sum-map f g (y ∷ ys) = ap (λ (n : ℕ). f (g y) + n) (sum-map f g ys)
-
 module _ (f : ℕ → ℕ) where
   -- Up to 0 there is nothing to add.
   pub sumTo-none : sumTo f 0 ≡ 0
@@ -70,6 +63,11 @@ module _ (f : ℕ → ℕ) where
   -- A sum before the last number and the next term are not more than the whole.
   pub sumTo-room : (i n : ℕ) → i < n → sumTo f i + f (i + 1) ≤ sumTo f n
   sumTo-room i n inside = rw (add-one i) (omega (arith, sumTo-next i, sumTo-grows (suc i) n inside))
+
+-- A sum up to a number is its first term and that of the later ones.
+pub sumTo-first : (f : ℕ → ℕ) (n : ℕ) → sumTo f (suc n) ≡ f 1 + sumTo (λ i. f (suc i)) n
+sumTo-first f zero = omega (arith, sumTo-next f 0, sumTo-none f, sumTo-none (λ i. f (suc i)))
+sumTo-first f (suc n) = omega (arith, sumTo-next f (suc n), sumTo-first f n, sumTo-next (λ i. f (suc i)) n)
 
 -- The numbers from 1 to n are in range,
 pub upTo-range : (n k : ℕ) → List·Memᴰ k (upTo n) → (1 ≤ k) × (k ≤ n)
@@ -137,19 +135,3 @@ sumTo-least f n each =
       sum-const 1 (upTo n),
       upTo-length n,
     )
-
-module _ (f : ℕ → ℕ) (xs : List ℕ) where
-  -- What is left of a sum from place i on: the next term is added,
-  pub sum-next : (i total : ℕ) {whole : ℕ}
-      → i < length xs
-      → total + sum f (drop i xs) ≡ whole
-      → total + f (getD xs i 0) + sum f (drop (i + 1) xs) ≡ whole
-  unfolding sum
-  sum-next i total inside same =
-      let one = drop-cons xs i 0 inside in
-      omega (arith, rw one at same, ap (λ n. sum f (drop n xs)) (add-one i))
-
-  -- and after the last the total is the whole.
-  pub sum-none : (i total : ℕ) {whole : ℕ} → length xs ≤ i → total + sum f (drop i xs) ≡ whole → total ≡ whole
-  unfolding sum
-  sum-none i total past same = let e = drop-of-length-le xs past in omega (arith, rw e at same)

@@ -1,25 +1,34 @@
--- Interference by least periods. Assumes nothing.
-use Prim.Native.Nat.{ℕ, _+_, _*_, _≤_}
+-- Interference by least periods and jitters. Assumes nothing.
+use Prim.Native.Nat.{ℕ, pred, _+_, _*_, _≤_, _<_}
 use native.Mathlib.Nat.{div-le-self}
 use native.Mathlib.Omega.{arith}
+use mathlib.Core.Path.{_≡_, ap}
 use mathlib.Core.List.{List}
-use lib.ListN.{length}
-use Rattle.theory.proofs.Sums.{sum-mono, sum-const}
+use lib.ListN.{length, getD}
+use Rattle.theory.proofs.Sums.{sumTo-mono, sumTo-most}
+use Rattle.model.specs.Limits.{maxTime}
 use Rattle.model.specs.Analysis.{mostReleases}
 use Rattle.model.proofs.Analysis.Interference.{releases-grow}
 use Rattle.model.proofs.Analysis.Wait.{Grows}
-use Rattle.wait.specs.Periods.{interferenceBy}
+use Rattle.wait.specs.Periods.{entry, releasesBy, interferenceBy}
+use Rattle.wait.specs.InRange.{HigherRanges}
 
--- It grows with the window.
-pub by-grows : (periods : List ℕ) → Grows (interferenceBy periods)
-by-grows periods v w h = sum-mono (λ p. mostReleases p v) (λ p. mostReleases p w) periods (λ p m. releases-grow p h)
+-- What a list has for the next stream after i of them.
+pub next-entry : (list : List ℕ) (i : ℕ) → entry list (i + 1) ≡ getD list i 0
+next-entry list i = let at : pred (i + 1) ≡ i = omega arith in ap (λ n. getD list n 0) at
 
--- It is at most a message a tick for each stream.
-pub by-most : (periods : List ℕ) (w : ℕ) → interferenceBy periods w ≤ length periods * (w + 1)
-unfolding mostReleases
-by-most periods w =
-    omega (
-      arith,
-      sum-mono (λ p. mostReleases p w) (λ p. w + 1) periods (λ p m. omega (arith, div-le-self w p)),
-      sum-const (w + 1) periods,
-    )
+module _ (periods jitters : List ℕ) where
+  -- It grows with the window.
+  pub by-grows : Grows (interferenceBy periods jitters)
+  by-grows v w h =
+      sumTo-mono (releasesBy periods jitters v) (releasesBy periods jitters w) (length periods)
+      (λ i low high. releases-grow (entry periods i) (entry jitters i) h)
+
+  -- It is at most a message a tick, of the window and of the longest jitter, for each stream.
+  pub by-most : HigherRanges periods jitters → (w : ℕ) → interferenceBy periods jitters w ≤ length periods * (w + maxTime + 1)
+  unfolding mostReleases
+  by-most ranges w =
+      sumTo-most (releasesBy periods jitters w) (w + maxTime + 1) (length periods)
+      (λ i low high.
+      let inside : pred i < length periods = omega arith in
+      omega (arith, div-le-self (w + entry jitters i) (entry periods i), ranges .jittersBelow (pred i) inside, ranges .periodsTo (pred i) inside))

@@ -12,14 +12,14 @@ use Rattle.wait.specs.Periods.{interferenceBy}
 use Rattle.wait.specs.InRange.{Ranges, FoundJ}
 use Rattle.wait.proofs.Periods.{by-grows}
 
-module _ {periods : List ℕ} {t : Timing} {J h before : ℕ}
+module _ {periods jitters : List ℕ} {t : Timing} {J h before : ℕ}
     (ranges : Ranges t)
-    (at : FoundJ periods t J h)
+    (at : FoundJ periods jitters t J h)
     (turns : before ≡ pred J * t .budget)
   where
     -- The places of the turns before are all taken.
     pub place-least : before ≤ h
-    place-least = rw (turns, at .tried .counted) (place-exact (by-grows periods) (at .least))
+    place-least = rw (turns, at .tried .counted) (place-exact (by-grows periods jitters) (at .least))
 
     -- The place in the turn is one of the budget's.
     pub place-most : h - before < maxBudget
@@ -36,6 +36,6 @@ module _ {periods : List ℕ} {t : Timing} {J h before : ℕ}
     ticks-most short = mul-le-mul {n₂ = maxBudget} {m₂ = maxSlotTicks} (omega (arith, place-most)) short
 
     -- The sum is the definition's.
-    pub wait-exact : J * t .cycle - 1 + (h - before) * t .message ≡ waitFor (interferenceBy periods) t J
+    pub wait-exact : J * t .cycle - 1 + (h - before) * t .message ≡ waitFor (interferenceBy periods jitters) t J
     unfolding waitFor
     wait-exact = rw (turns, at .tried .counted) refl

@@ -4,7 +4,7 @@ ghost use Prim.Native.Nat.{_^_, _≤_, _<_};
 ghost use Rattle.model.specs.Limits.{maxTime};
 ghost use Rattle.model.specs.Analysis.{mostReleases};
 ghost use Rattle.wait.specs.Periods.{interferenceBy};
-ghost use Rattle.wait.specs.InRange.{Divisors};
+ghost use Rattle.wait.specs.InRange.{HigherRanges};
 
 // A word as a longer number.
 pub fn long(x: u32) -> u64
@@ -13,23 +13,24 @@ pub fn long(x: u32) -> u64
     x as u64
 }
 
-// The most messages that a stream of that least period can release in a window of w + 1 ticks.
-pub fn most_releases(period: u32, w: u32) -> u32
-    requires { ⌜ (1 ≤ period) × (w ≤ maxTime) ⌝ }
-    ensures { λ r. ⌜ r ≡ mostReleases period w ⌝ }
+// The most messages that a stream of that least period and jitter can release in a window of w + 1 ticks.
+pub fn most_releases(period: u32, jitter: u32, w: u32) -> u32
+    requires { ⌜ (1 ≤ period) × (jitter ≤ maxTime) × (w ≤ maxTime) ⌝ }
+    ensures { λ r. ⌜ r ≡ mostReleases period jitter w ⌝ }
 {
-    1 + w / period
+    1 + (w + jitter) / period
 }
 
-// Interference, "H", of streams with these least periods, in a window of w + 1 ticks. It passes 32 bits, and no term of it does.
-pub fn interference_of(periods: &[u32], w: u32) -> u64
-    requires { ⌜ Divisors (now periods) × (w ≤ maxTime) ⌝ }
-    ensures { λ r. ⌜ r ≡ interferenceBy (now (periods .entry)) w ⌝ }
+// Interference, "H", of streams with these least periods and jitters, in a window of w + 1 ticks. It passes 32 bits, and no term of it
+// does.
+pub fn interference_of(periods: &[u32], jitters: &[u32], w: u32) -> u64
+    requires { ⌜ HigherRanges (now periods) (now jitters) × (w ≤ maxTime) ⌝ }
+    ensures { λ r. ⌜ r ≡ interferenceBy (now (periods .entry)) (now (jitters .entry)) w ⌝ }
 {
     let mut sum: u64 = 0;
     let mut i: usize = 0;
     while i < periods.len() {
-        sum += long(most_releases(periods[i], w));
+        sum += long(most_releases(periods[i], jitters[i], w));
         i += 1;
     }
     sum

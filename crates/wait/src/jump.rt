@@ -1,12 +1,12 @@
 // How far the search for J may jump where a number of cycles does not suffice. The streams above with a period within `reach` are taken
-// by their rate, and the others by what they can release in those cycles; proofs/Analysis/Jump of the model says why that is sound,
+// by their rate and their jitter, and the others by what they can release in those cycles; proofs/Analysis/Jump of the model says why that is sound,
 // whatever the reach. The reach is chosen for speed alone.
 ghost use mathlib.Core.Path.{_≡_};
 ghost use Prim.Native.Nat.{_+_, _-_, _*_, _≤_, _<_};
-ghost use Rattle.model.specs.Limits.{maxBudget, maxTime};
+ghost use Rattle.model.specs.Limits.{maxStreams, maxBudget, maxTime};
 ghost use Rattle.wait.specs.Periods.{interferenceBy};
-ghost use Rattle.wait.specs.InRange.{maxCycle, Divisors, Ranges, Filled};
-ghost use Rattle.wait.specs.Jump.{scale, heldBy, ratedBy, heldOf, rateOf, NoneBelow};
+ghost use Rattle.wait.specs.InRange.{maxCycle, HigherRanges, Ranges, Filled};
+ghost use Rattle.wait.specs.Jump.{scale, heldBy, ratedBy, aheadBy, heldOf, rateOf, aheadOf, NoneBelow};
 use crate::interference::long;
 use crate::interference::most_releases;
 use model::Timing;
@@ -25,12 +25,12 @@ const PAST_ALL: u64 = 4_294_967_296;
 pub const ALL: u32 = 1_000_000_000;
 
 // What a stream counts with that is not taken by its rate.
-fn held_by(period: u32, w: u32, reach: u32) -> u64
-    requires { ⌜ (1 ≤ period) × (w ≤ maxTime) ⌝ }
-    ensures { λ r. ⌜ (r ≡ heldBy reach w period) × (r ≤ maxTime + 1) ⌝ }
+fn held_by(period: u32, jitter: u32, w: u32, reach: u32) -> u64
+    requires { ⌜ (1 ≤ period) × (jitter ≤ maxTime) × (w ≤ maxTime) ⌝ }
+    ensures { λ r. ⌜ (r ≡ heldBy reach w period jitter) × (r ≤ 2 * maxTime + 1) ⌝ }
 {
     if reach < period {
-        long(most_releases(period, w))
+        long(most_releases(period, jitter, w))
     } else {
         0
     }
@@ -48,26 +48,47 @@ fn rated_by(period: u32, cycle: u32, reach: u32) -> u64
     }
 }
 
-// The split of streams at a reach: what those past it count with together, and the rates of those within it.
+// What a stream that is taken by its rate is ahead of it, by its jitter, in parts of a message. (Most streams have no jitter, and then
+// nothing is divided.)
+fn ahead_by(period: u32, jitter: u32, reach: u32) -> u64
+    requires { ⌜ (jitter < period) × (period ≤ maxTime) ⌝ }
+    ensures { λ r. ⌜ (r ≡ aheadBy reach period jitter) × (r ≤ scale) ⌝ }
+{
+    if jitter == 0 {
+        return 0;
+    }
+    if period <= reach {
+        long(jitter) * SCALE / long(period)
+    } else {
+        0
+    }
+}
+
+// The split of streams at a reach: what those past it count with together, and of those within it the rates, and what they are ahead of
+// them.
 struct Split {
     held: u64,
+    ahead: u64,
     rate: u64,
 }
 
-// The split of streams with these least periods, for a window of w + 1 ticks.
-fn split_at(periods: &[u32], w: u32, cycle: u32, reach: u32) -> Split
-    requires { ⌜ Divisors (now periods) × (w ≤ maxTime) × (cycle ≤ maxCycle) ⌝ }
-    ensures { λ r. ⌜ (r .held ≡ heldOf reach w (now (periods .entry))) × (r .rate ≡ rateOf reach cycle (now (periods .entry))) ⌝ }
+// The split of streams with these least periods and jitters, for a window of w + 1 ticks.
+fn split_at(periods: &[u32], jitters: &[u32], w: u32, cycle: u32, reach: u32) -> Split
+    requires { ⌜ HigherRanges (now periods) (now jitters) × (w ≤ maxTime) × (cycle ≤ maxCycle) ⌝ }
+    ensures sums { λ r. ⌜ (r .held ≡ heldOf reach w (now (periods .entry)) (now (jitters .entry))) × (r .ahead ≡ aheadOf reach (now (periods .entry)) (now (jitters .entry))) × (r .rate ≡ rateOf reach cycle (now (periods .entry))) ⌝ }
+    ensures few { λ r. ⌜ r .ahead ≤ maxStreams * scale ⌝ }
 {
     let mut held: u64 = 0;
+    let mut ahead: u64 = 0;
     let mut rate: u64 = 0;
     let mut i: usize = 0;
     while i < periods.len() {
-        held += held_by(periods[i], w, reach);
+        held += held_by(periods[i], jitters[i], w, reach);
+        ahead += ahead_by(periods[i], jitters[i], reach);
         rate += rated_by(periods[i], cycle, reach);
         i += 1;
     }
-    Split { held, rate }
+    Split { held, ahead, rate }
 }
 
 // What the rates leave of a turn, in parts of a message; 0 where they fill it.
@@ -81,11 +102,17 @@ fn left_of(budget: u32, rate: u64) -> u64
 
 // A number that each from `cycles` on that suffices comes up to, by the split at that reach. Where the rates alone fill the turns, none
 // suffices; and where those held are too many to be counted in parts, it is `cycles`.
-fn split_jump(periods: &[u32], timing: Timing, cycles: u32, reach: u32) -> u64
-    requires { ⌜ Divisors (now periods) × Ranges timing × (1 ≤ cycles) × (cycles * timing .cycle ≤ maxTime + 1) ⌝ }
-    ensures { λ r. ⌜ NoneBelow (interferenceBy (now (periods .entry))) timing cycles r ⌝ }
+fn split_jump(periods: &[u32], jitters: &[u32], timing: Timing, cycles: u32, reach: u32) -> u64
+    requires { ⌜ HigherRanges (now periods) (now jitters) × Ranges timing × (1 ≤ cycles) × (cycles * timing .cycle ≤ maxTime + 1) ⌝ }
+    ensures { λ r. ⌜ NoneBelow (interferenceBy (now (periods .entry)) (now (jitters .entry))) timing cycles r ⌝ }
 {
-    let split = split_at(periods, cycles * timing.cycle - 1, timing.cycle, reach);
+    let split = split_at(
+        periods,
+        jitters,
+        cycles * timing.cycle - 1,
+        timing.cycle,
+        reach,
+    );
     let left = left_of(timing.budget, split.rate);
     if left == 0 {
         return PAST_ALL;
@@ -93,29 +120,44 @@ fn split_jump(periods: &[u32], timing: Timing, cycles: u32, reach: u32) -> u64
     if split.held > 1_000_000_000 {
         return long(cycles);
     }
-    ((split.held + 1) * SCALE - 1) / left + 1
+    ((split.held + 1) * SCALE + split.ahead - 1) / left + 1
 }
 
 // The farther of the plain jump and that by a split.
-fn farther(periods: &[u32], timing: Timing, cycles: u32, reach: u32, plain: u64) -> u64
-    requires { ⌜ Divisors (now periods) × Ranges timing × (1 ≤ cycles) × (cycles * timing .cycle ≤ maxTime + 1) × NoneBelow (interferenceBy (now periods)) timing cycles plain ⌝ }
-    ensures { λ r. ⌜ (plain ≤ r) × NoneBelow (interferenceBy (now (periods .entry))) timing cycles r ⌝ }
+fn farther(
+    periods: &[u32],
+    jitters: &[u32],
+    timing: Timing,
+    cycles: u32,
+    reach: u32,
+    plain: u64,
+) -> u64
+    requires { ⌜ HigherRanges (now periods) (now jitters) × Ranges timing × (1 ≤ cycles) × (cycles * timing .cycle ≤ maxTime + 1) × NoneBelow (interferenceBy (now periods) (now jitters)) timing cycles plain ⌝ }
+    ensures { λ r. ⌜ (plain ≤ r) × NoneBelow (interferenceBy (now (periods .entry)) (now (jitters .entry))) timing cycles r ⌝ }
 {
     if cycles < NEAR {
         return plain;
     }
-    let far = split_jump(periods, timing, cycles, reach);
+    let far = split_jump(periods, jitters, timing, cycles, reach);
     if plain < far { far } else { plain }
 }
 
 // The next number to try, where h is the interference in `cycles` and fills all their turns: none between them suffices. It is past
 // the last where none is left.
-pub fn next_try(periods: &[u32], timing: Timing, cycles: u32, h: u64, last: u32, reach: u32) -> u32
-    requires { ⌜ Divisors (now periods) × Ranges timing × Filled (now periods) timing cycles h × (cycles ≤ last) × (last ≤ maxTime) ⌝ }
-    ensures { λ r. ⌜ (cycles < r) × (r ≤ last + 1) × NoneBelow (interferenceBy (now (periods .entry))) timing cycles r ⌝ }
+pub fn next_try(
+    periods: &[u32],
+    jitters: &[u32],
+    timing: Timing,
+    cycles: u32,
+    h: u64,
+    last: u32,
+    reach: u32,
+) -> u32
+    requires { ⌜ HigherRanges (now periods) (now jitters) × Ranges timing × Filled (now periods) (now jitters) timing cycles h × (cycles ≤ last) × (last ≤ maxTime) ⌝ }
+    ensures { λ r. ⌜ (cycles < r) × (r ≤ last + 1) × NoneBelow (interferenceBy (now (periods .entry)) (now (jitters .entry))) timing cycles r ⌝ }
 {
     let plain = h / long(timing.budget) + 1;
-    let next = farther(periods, timing, cycles, reach, plain);
+    let next = farther(periods, jitters, timing, cycles, reach, plain);
     if next <= long(last) {
         next as u32
     } else {

@@ -97,12 +97,13 @@ pub extern "C" fn wistorvan_write_sheet(
     budgets: &[u32],
     periods: &[u32],
     deadlines: &[u32],
+    jitters: &[u32],
     room: &mut [u32],
 ) -> Answer
-    ensures answer { λ r. ⌜ r ≡ writeAnswer (lentTables «message_ticks» «slot_ticks» (now (counts .entry)) (now (budgets .entry)) (now (periods .entry)) (now (deadlines .entry))) (length (now (room .entry))) ⌝ }
-    ensures buffer { λ r. ⌜ now (room .exit) ≡ writeBuffer (lentTables «message_ticks» «slot_ticks» (now (counts .entry)) (now (budgets .entry)) (now (periods .entry)) (now (deadlines .entry))) (now (room .entry)) ⌝ }
-    ensures reads { λ r. ⌜ (r .number ≡ 0 → ReadsBack (lentTables «message_ticks» «slot_ticks» (now (counts .entry)) (now (budgets .entry)) (now (periods .entry)) (now (deadlines .entry))) (r .second) (r .third) (now (room .exit))) ⌝ }
-    ensures again { λ r. ⌜ WrittenAgain (lentTables «message_ticks» «slot_ticks» (now (counts .entry)) (now (budgets .entry)) (now (periods .entry)) (now (deadlines .entry))) (now (room .entry)) r (now (room .exit)) ⌝ }
+    ensures answer { λ r. ⌜ r ≡ writeAnswer (lentTables «message_ticks» «slot_ticks» (now (counts .entry)) (now (budgets .entry)) (now (periods .entry)) (now (deadlines .entry)) (now (jitters .entry))) (length (now (room .entry))) ⌝ }
+    ensures buffer { λ r. ⌜ now (room .exit) ≡ writeBuffer (lentTables «message_ticks» «slot_ticks» (now (counts .entry)) (now (budgets .entry)) (now (periods .entry)) (now (deadlines .entry)) (now (jitters .entry))) (now (room .entry)) ⌝ }
+    ensures reads { λ r. ⌜ (r .number ≡ 0 → ReadsBack (lentTables «message_ticks» «slot_ticks» (now (counts .entry)) (now (budgets .entry)) (now (periods .entry)) (now (deadlines .entry)) (now (jitters .entry))) (r .second) (r .third) (now (room .exit))) ⌝ }
+    ensures again { λ r. ⌜ WrittenAgain (lentTables «message_ticks» «slot_ticks» (now (counts .entry)) (now (budgets .entry)) (now (periods .entry)) (now (deadlines .entry)) (now (jitters .entry))) (now (room .entry)) r (now (room .exit)) ⌝ }
 {
     writer::write_sheet(
         message_ticks,
@@ -111,6 +112,7 @@ pub extern "C" fn wistorvan_write_sheet(
         budgets,
         periods,
         deadlines,
+        jitters,
         room,
     )
 }

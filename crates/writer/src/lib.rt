@@ -38,15 +38,16 @@ fn write_words(
     budgets: &[u32],
     periods: &[u32],
     deadlines: &[u32],
+    jitters: &[u32],
     room: &mut [u32],
 )
     requires { ⌜ (length (now counts) ≤ maxNodes) × (sumOf (now counts) ≤ maxNodes * maxStreams) × (bodyAt (length (now counts)) (sumOf (now counts)) ≤ length (now room)) ⌝ }
-    ensures { λ _. ⌜ now (room .exit) ≡ written (lentTables message slot (now (counts .entry)) (now (budgets .entry)) (now (periods .entry)) (now (deadlines .entry))) ++ drop (length (written (lentTables message slot (now (counts .entry)) (now (budgets .entry)) (now (periods .entry)) (now (deadlines .entry))))) (now (room .entry)) ⌝ }
+    ensures { λ _. ⌜ now (room .exit) ≡ written (lentTables message slot (now (counts .entry)) (now (budgets .entry)) (now (periods .entry)) (now (deadlines .entry)) (now (jitters .entry))) ++ drop (length (written (lentTables message slot (now (counts .entry)) (now (budgets .entry)) (now (periods .entry)) (now (deadlines .entry)) (now (jitters .entry))))) (now (room .entry)) ⌝ }
 {
     let n = counts.len() as u32;
     fill::put_header(n, message, slot, room);
     parts::write_rows(counts, budgets, n, room);
-    parts::write_bodies(counts, periods, deadlines, n, room);
+    parts::write_bodies(counts, periods, deadlines, jitters, n, room);
 }
 
 // "Write the sheet": the words written and C, and the sheet in the buffer's first words. What it wrote reads back as the same tables; and
@@ -58,12 +59,13 @@ pub fn write_sheet(
     budgets: &[u32],
     periods: &[u32],
     deadlines: &[u32],
+    jitters: &[u32],
     room: &mut [u32],
 ) -> Answer
-    ensures answer { λ r. ⌜ r ≡ writeAnswer (lentTables «message_ticks» «slot_ticks» (now (counts .entry)) (now (budgets .entry)) (now (periods .entry)) (now (deadlines .entry))) (length (now (room .entry))) ⌝ }
-    ensures buffer { λ r. ⌜ now (room .exit) ≡ writeBuffer (lentTables «message_ticks» «slot_ticks» (now (counts .entry)) (now (budgets .entry)) (now (periods .entry)) (now (deadlines .entry))) (now (room .entry)) ⌝ }
-    ensures reads { λ r. ⌜ (r .number ≡ 0 → ReadsBack (lentTables «message_ticks» «slot_ticks» (now (counts .entry)) (now (budgets .entry)) (now (periods .entry)) (now (deadlines .entry))) (r .second) (r .third) (now (room .exit))) ⌝ }
-    ensures again { λ r. ⌜ WrittenAgain (lentTables «message_ticks» «slot_ticks» (now (counts .entry)) (now (budgets .entry)) (now (periods .entry)) (now (deadlines .entry))) (now (room .entry)) r (now (room .exit)) ⌝ }
+    ensures answer { λ r. ⌜ r ≡ writeAnswer (lentTables «message_ticks» «slot_ticks» (now (counts .entry)) (now (budgets .entry)) (now (periods .entry)) (now (deadlines .entry)) (now (jitters .entry))) (length (now (room .entry))) ⌝ }
+    ensures buffer { λ r. ⌜ now (room .exit) ≡ writeBuffer (lentTables «message_ticks» «slot_ticks» (now (counts .entry)) (now (budgets .entry)) (now (periods .entry)) (now (deadlines .entry)) (now (jitters .entry))) (now (room .entry)) ⌝ }
+    ensures reads { λ r. ⌜ (r .number ≡ 0 → ReadsBack (lentTables «message_ticks» «slot_ticks» (now (counts .entry)) (now (budgets .entry)) (now (periods .entry)) (now (deadlines .entry)) (now (jitters .entry))) (r .second) (r .third) (now (room .exit))) ⌝ }
+    ensures again { λ r. ⌜ WrittenAgain (lentTables «message_ticks» «slot_ticks» (now (counts .entry)) (now (budgets .entry)) (now (periods .entry)) (now (deadlines .entry)) (now (jitters .entry))) (now (room .entry)) r (now (room .exit)) ⌝ }
 {
     let refusal = tables::check_tables(
         message_ticks,
@@ -72,6 +74,7 @@ pub fn write_sheet(
         budgets,
         periods,
         deadlines,
+        jitters,
     );
     if refusal.number != 0 {
         return refusal;
@@ -88,6 +91,7 @@ pub fn write_sheet(
         budgets,
         periods,
         deadlines,
+        jitters,
         room,
     );
     Answer {

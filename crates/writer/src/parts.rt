@@ -30,9 +30,16 @@ pub fn write_rows(counts: &[u32], budgets: &[u32], n: u32, room: &mut [u32])
 }
 
 // One body, in the part of the buffer that is lent from its place on: the words of `count` streams, which `before` others come before.
-pub fn write_body(periods: &[u32], deadlines: &[u32], before: usize, count: u32, body: &mut [u32])
+pub fn write_body(
+    periods: &[u32],
+    deadlines: &[u32],
+    jitters: &[u32],
+    before: usize,
+    count: u32,
+    body: &mut [u32],
+)
     requires { ⌜ (before + count < 2 ^ 64) × (streamWords * count ≤ length (now body)) ⌝ }
-    ensures { λ _. ⌜ now (body .exit) ≡ bodyOf (now (periods .entry)) (now (deadlines .entry)) before count ++ drop (streamWords * count) (now (body .entry)) ⌝ }
+    ensures { λ _. ⌜ now (body .exit) ≡ bodyOf (now (periods .entry)) (now (deadlines .entry)) (now (jitters .entry)) before count ++ drop (streamWords * count) (now (body .entry)) ⌝ }
 {
     let mut i: u32 = 0;
     while i < count {
@@ -41,6 +48,7 @@ pub fn write_body(periods: &[u32], deadlines: &[u32], before: usize, count: u32,
         fill::put_stream(
             word_at(periods, from),
             word_at(deadlines, from),
+            word_at(jitters, from),
             &mut body[at..],
         );
         i += 1;
@@ -48,16 +56,23 @@ pub fn write_body(periods: &[u32], deadlines: &[u32], before: usize, count: u32,
 }
 
 // The bodies of n nodes, each written from its place on.
-pub fn write_bodies(counts: &[u32], periods: &[u32], deadlines: &[u32], n: u32, room: &mut [u32])
+pub fn write_bodies(
+    counts: &[u32],
+    periods: &[u32],
+    deadlines: &[u32],
+    jitters: &[u32],
+    n: u32,
+    room: &mut [u32],
+)
     requires { ⌜ (n ≡ length (now counts)) × (n ≤ maxNodes) × (sumOf (now counts) ≤ maxNodes * maxStreams) × (bodyAt n (sumOf (now counts)) ≤ length (now room)) ⌝ }
-    ensures { λ _. ⌜ now (room .exit) ≡ replacedAt (now (room .entry)) (firstBodyAt n) (joinedFrom (λ k. bodyOf (now (periods .entry)) (now (deadlines .entry)) (countsBefore (now (counts .entry)) k) (nodeEntry (now (counts .entry)) k)) 1 n) ⌝ }
+    ensures { λ _. ⌜ now (room .exit) ≡ replacedAt (now (room .entry)) (firstBodyAt n) (joinedFrom (λ k. bodyOf (now (periods .entry)) (now (deadlines .entry)) (now (jitters .entry)) (countsBefore (now (counts .entry)) k) (nodeEntry (now (counts .entry)) k)) 1 n) ⌝ }
 {
     let mut before: usize = 0;
     let mut at = layout::first_body_at(n);
     let mut i: u32 = 0;
     while i < n {
         let count = node_entry(counts, i + 1);
-        write_body(periods, deadlines, before, count, &mut room[at..]);
+        write_body(periods, deadlines, jitters, before, count, &mut room[at..]);
         before += wide(count);
         at += layout::body_words(count);
         i += 1;

@@ -103,10 +103,11 @@ pub fn find_before_the_room(sheet: &[u32], room: &mut [u32]) -> Answer {
 }
 
 /// No error: the rounds go on up to 17, and the answer is the same. A node that
-/// is in time has no period as short as the cycle, so that the first cycle
-/// brings at most fifteen releases above any of its streams. With 16 in place of
-/// 17 it would be in time just as well, and sooner. So whoever is late at 16 is
-/// late at 17, one round later, when no other node can have 17.
+/// is in time has no period as short as the cycle and the jitter together, so
+/// that the first cycle brings at most fifteen releases above any of its
+/// streams. With 16 in place of 17 it would be in time just as well, and sooner.
+/// So whoever is late at 16 is late at 17, one round later, when no other node
+/// can have 17.
 pub fn find_to_seventeen(sheet: &[u32], room: &mut [u32]) -> Answer {
     find_to(sheet, room, 17)
 }
@@ -119,7 +120,7 @@ fn find_to(sheet: &[u32], room: &mut [u32], most: usize) -> Answer {
 }
 
 /// As in the good program, but for what one round does.
-fn find_with(
+pub(super) fn find_with(
     sheet: &[u32],
     room: &mut [u32],
     round: impl Fn(&mut Bus) -> Result<bool, usize>,

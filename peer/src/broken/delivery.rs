@@ -8,14 +8,14 @@ use crate::Answer;
 
 /// Error 22: the old test, by which a message is delivered when it ends.
 pub fn admit_delivering_at_own_end(sheet: &[u32], room: &mut [u32]) -> Answer {
-    admit_judging(sheet, room, |bus, _, found| found.wait + bus.message_ticks)
+    admit_judging(sheet, room, own_end)
 }
 
 /// Error 23: the turn ends behind the message's own place, as if none came
 /// after it in its turn.
 pub fn admit_delivering_behind_own_place(sheet: &[u32], room: &mut [u32]) -> Answer {
-    admit_judging(sheet, room, |bus, _, found| {
-        found.wait + bus.message_ticks + bus.slot_ticks
+    admit_judging(sheet, room, |bus, stream, found| {
+        own_end(bus, stream, found) + bus.slot_ticks
     })
 }
 
@@ -33,6 +33,11 @@ pub fn admit_late_at_the_deadline(sheet: &[u32], room: &mut [u32]) -> Answer {
     })
 }
 
+/// Ticks from an event to the end of its message at the latest.
+fn own_end(bus: &Bus, stream: usize, found: Listed) -> u64 {
+    u64::from(bus.streams()[stream].jitter) + found.wait + bus.message_ticks
+}
+
 /// Admits with another delivery, which must not be above the deadline.
 fn admit_judging(
     sheet: &[u32],
@@ -40,9 +45,11 @@ fn admit_judging(
     delivered: fn(&Bus, usize, Listed) -> u64,
 ) -> Answer {
     admit_with(sheet, room, |bus, stream| {
-        let deadline = u64::from(bus.streams()[stream].deadline);
-        // None of these delivers before J × C, so no later J is in time.
-        let found = least_cycles(bus, stream, deadline / bus.cycle())?;
+        let own = &bus.streams()[stream];
+        let (deadline, jitter) = (u64::from(own.deadline), u64::from(own.jitter));
+        // None of these delivers before jitter + J × C, so no later J is in time.
+        let last = deadline.saturating_sub(jitter) / bus.cycle();
+        let found = least_cycles(bus, stream, last)?;
         (delivered(bus, stream, found) <= deadline).then_some(found.wait)
     })
 }

@@ -1,39 +1,37 @@
 //! A search for J that jumps, right as it is, and the wrong ones made from it.
 //! Where a J does not serve, it goes on with the least that can. Split the
 //! streams above into fast ones and the rest. From J on the rest have released
-//! at least as often as by now, and the fast ones at least J × C / period
-//! times, so that a J can serve only if
-//! rest + 1 + J × (sum of C / period over the fast ones) <= J × budget.
+//! at least as often as by now, and the fast ones at least
+//! (J × C + jitter) / period times, so that a J can serve only if
+//! rest + 1 + (sum of jitter / period over the fast ones)
+//! + J × (sum of C / period over them) <= J × budget.
 
 use super::admit_with;
-use crate::admission::last_try;
+use crate::admission::{last_try, Above};
 use crate::sheet::Bus;
 use crate::{refusal, success, Answer};
 
-/// C / period is counted in so many parts of a release, rounded down: with a
-/// rate that is too low no jump goes too far.
+/// C / period and jitter / period are counted in so many parts of a release,
+/// rounded down: with numbers that are too low no jump goes too far.
 const PARTS: u128 = 1 << 34;
 
 /// What J is searched for with.
 struct Search {
-    /// The periods of the streams above, shortest first.
-    above: Vec<u64>,
+    /// The streams above, the shortest period first.
+    above: Vec<Above>,
     cycle: u64,
     budget: u64,
 }
 
 impl Search {
     fn new(bus: &Bus, stream: usize) -> Search {
-        let node = &bus.nodes()[bus.node_of(stream)];
-        let mut above: Vec<u64> = (node.first..node.first + node.count)
-            .filter(|&other| bus.priority(other) < bus.priority(stream))
-            .map(|other| u64::from(bus.streams()[other].period))
-            .collect();
-        above.sort();
+        let above = bus.above(stream);
+        let mut above: Vec<Above> = above.map(|other| (&bus.streams()[other]).into()).collect();
+        above.sort_by_key(|stream| stream.period);
         Search {
             above,
             cycle: bus.cycle(),
-            budget: node.budget as u64,
+            budget: bus.nodes()[bus.node_of(stream)].budget as u64,
         }
     }
 
@@ -41,17 +39,22 @@ impl Search {
     fn releases(&self, without: usize, cycles: u64) -> u64 {
         let window = cycles * self.cycle - 1;
         let streams = self.above[without..].iter();
-        streams.map(|period| 1 + window / period).sum()
+        streams.map(|stream| stream.releases(window)).sum()
+    }
+
+    /// The sum of these ticks of the fastest, each in parts of its period.
+    fn parts(&self, fast: usize, ticks: impl Fn(&Above) -> u64) -> u128 {
+        let streams = self.above[..fast].iter();
+        let parts = |stream| u128::from(ticks(stream)) * PARTS / u128::from(stream.period);
+        streams.map(parts).sum()
     }
 
     /// The least J that can serve, with so many of the fastest taken as fast
     /// and so many releases of the rest; none if the fast ones fill the budget.
     fn bound(&self, fast: usize, rest: u64) -> Option<u64> {
-        let cycle = u128::from(self.cycle) * PARTS;
-        let rates = self.above[..fast].iter();
-        let rate: u128 = rates.map(|&period| cycle / u128::from(period)).sum();
+        let rate = self.parts(fast, |_| self.cycle);
         let free = (u128::from(self.budget) * PARTS).checked_sub(rate)?;
-        let needed = (u128::from(rest) + 1) * PARTS;
+        let needed = (u128::from(rest) + 1) * PARTS + self.parts(fast, |stream| stream.jitter);
         (free > 0).then(|| needed.div_ceil(free) as u64)
     }
 
@@ -145,7 +148,7 @@ pub fn admit_rounding_rates_up(sheet: &[u32], room: &mut [u32]) -> Answer {
     let next = |search: &Search, cycles| {
         let cycle = COARSE_PARTS * search.cycle;
         let rates = search.above.iter();
-        let rate: u64 = rates.map(|period| cycle.div_ceil(*period)).sum();
+        let rate: u64 = rates.map(|stream| cycle.div_ceil(stream.period)).sum();
         match rate < COARSE_PARTS * search.budget {
             true => (RIGHT.next)(search, cycles),
             false => None,
@@ -165,5 +168,16 @@ pub fn admit_with_every_place_taken(sheet: &[u32], room: &mut [u32]) -> Answer {
 /// Error 29: the releases of the fast streams are counted with the rest too.
 pub fn admit_counting_fast_twice(sheet: &[u32], room: &mut [u32]) -> Answer {
     let next = |search: &Search, cycles| search.farthest(|_| search.releases(0, cycles));
+    admit_jumping(sheet, room, &Rules { next, ..RIGHT })
+}
+
+/// Error 53: each fast stream with a jitter is counted for one release more.
+pub fn admit_jumping_over_jitters(sheet: &[u32], room: &mut [u32]) -> Answer {
+    let next = |search: &Search, cycles| {
+        search.farthest(|fast| {
+            let jittery = search.above[..fast].iter().filter(|it| it.jitter > 0);
+            search.releases(fast, cycles) + jittery.count() as u64
+        })
+    };
     admit_jumping(sheet, room, &Rules { next, ..RIGHT })
 }

@@ -1,7 +1,7 @@
 //! The wrong writers.
 
 use crate::sheet::{HEADER_WORDS, ROW_WORDS, STREAM_WORDS};
-use crate::writer::{check_streams, put, Part};
+use crate::writer::{check_streams, put, stream_right, Part};
 use crate::{refusal, success, write_sheet, Answer, Tables};
 
 /// Error 12: every body has the place of the first one, as if no stream came
@@ -26,7 +26,7 @@ pub fn write_room_before_streams(tables: &Tables, room: &mut [u32]) -> Answer {
         if room.len() < words.len() {
             return Err(refusal(6, 0, 0));
         }
-        check_streams(nodes)?;
+        check_streams(nodes, stream_right)?;
         put(&words, room)
     })
 }
@@ -62,9 +62,7 @@ pub fn write_short_cycle(tables: &Tables, room: &mut [u32]) -> Answer {
 /// Error 18: period and deadline stand the wrong way round in a body.
 pub fn write_bodies_swapped(tables: &Tables, room: &mut [u32]) -> Answer {
     write_edited(tables, room, |words| {
-        let bodies = &mut words[HEADER_WORDS + ROW_WORDS * tables.counts.len()..];
-        let streams = bodies.chunks_exact_mut(STREAM_WORDS);
-        streams.for_each(|stream| stream.swap(0, 1));
+        streams(words).for_each(|stream| stream.swap(0, 1));
     })
 }
 
@@ -72,7 +70,7 @@ pub fn write_bodies_swapped(tables: &Tables, room: &mut [u32]) -> Answer {
 pub fn write_before_streams(tables: &Tables, room: &mut [u32]) -> Answer {
     write_with(tables, |nodes, words| {
         let written = put(&words, room);
-        check_streams(nodes)?;
+        check_streams(nodes, stream_right)?;
         written
     })
 }
@@ -85,10 +83,20 @@ fn rows(words: &mut [u32]) -> impl Iterator<Item = &mut [u32]> {
         .take(nodes)
 }
 
+/// The words of each stream in the words of a sheet.
+pub(super) fn streams(words: &mut [u32]) -> impl Iterator<Item = &mut [u32]> {
+    let bodies = HEADER_WORDS + ROW_WORDS * words[0] as usize;
+    words[bodies..].chunks_exact_mut(STREAM_WORDS)
+}
+
 /// Has the words changed between the checks of the tables and the room.
-fn write_edited(tables: &Tables, room: &mut [u32], edit: impl FnOnce(&mut [u32])) -> Answer {
+pub(super) fn write_edited(
+    tables: &Tables,
+    room: &mut [u32],
+    edit: impl FnOnce(&mut [u32]),
+) -> Answer {
     write_with(tables, |nodes, mut words| {
-        check_streams(nodes)?;
+        check_streams(nodes, stream_right)?;
         edit(&mut words);
         put(&words, room)
     })
@@ -96,7 +104,7 @@ fn write_edited(tables: &Tables, room: &mut [u32], edit: impl FnOnce(&mut [u32])
 
 /// As in the good program up to refusal 4; `finish` does the rest with the
 /// nodes and the words of the sheet.
-fn write_with(
+pub(super) fn write_with(
     tables: &Tables,
     finish: impl FnOnce(&[Part], Vec<u32>) -> Result<(), Answer>,
 ) -> Answer {

@@ -1,13 +1,14 @@
 //! Cases for the search for budgets.
 
 use super::any_word;
-use super::deadlines::sharpen_deadline;
+use super::deadlines::{sharpen_deadline, shorten_deadlines};
 use super::faults::damage_sheet;
+use super::jitters::sharpen_jitter;
 use super::random::Random;
 use super::rounds::{chained_sheet, hopeless_sheet, needy_sheet};
 use super::sheets::{bounded, valid_sheet};
 use crate::find_budgets;
-use crate::sheet::{Bus, HEADER_WORDS, MOST_NODES, ROW_WORDS, STREAM_WORDS};
+use crate::sheet::{Bus, HEADER_WORDS, MOST_NODES, ROW_WORDS};
 
 /// By any row, all streams of a sheet together try no more J, and those of most
 /// sheets far fewer.
@@ -68,10 +69,7 @@ fn limit_tries(sheet: &mut [u32], most: u64) {
     }
     let shortest = bus.nodes().len() as u64 * (bus.message_ticks + bus.slot_ticks);
     let latest = bounded(most / streams as u64 * shortest);
-    let bodies = sheet.len() - STREAM_WORDS * streams;
-    for stream in sheet[bodies..].chunks_exact_mut(STREAM_WORDS) {
-        stream[1] = stream[1].min(latest);
-    }
+    shorten_deadlines(sheet, streams, latest);
 }
 
 /// The budgets of a valid sheet.
@@ -81,7 +79,7 @@ fn budgets(sheet: &mut [u32]) -> impl Iterator<Item = &mut u32> {
     rows.take(nodes).map(|row| &mut row[2])
 }
 
-/// Brings a deadline to the edge of the late test by the row that is found, if
+/// Brings a stream to the edge of the late test by the row that is found, if
 /// one is. That row is then in the sheet.
 fn sharpen(random: &mut Random, sheet: &mut [u32]) {
     let mut row = [0; MOST_NODES];
@@ -89,7 +87,10 @@ fn sharpen(random: &mut Random, sheet: &mut [u32]) {
         budgets(sheet)
             .zip(row)
             .for_each(|(budget, word)| *budget = word);
-        sharpen_deadline(sheet, random);
+        match random.percent(60) {
+            true => sharpen_deadline(sheet, random),
+            false => sharpen_jitter(sheet, random),
+        };
     }
 }
 

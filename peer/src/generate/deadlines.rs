@@ -3,12 +3,12 @@
 
 use super::lower_of_two;
 use super::random::Random;
-use super::sheets::{bounded, NodePlan, Plan};
+use super::sheets::{bounded, NodePlan, Plan, StreamPlan};
 use crate::admission::{delivery, last_try, least_cycles};
-use crate::sheet::{Bus, LAST_TICK};
+use crate::sheet::{Bus, LAST_TICK, STREAM_WORDS};
 
-/// No deadline is brought to an edge further off.
-const MOST_CYCLES: u64 = 2_000;
+/// Nothing is brought to an edge further off.
+pub(super) const MOST_CYCLES: u64 = 2_000;
 
 /// Makes two streams rivals: the one with the longer period takes the other's
 /// deadline, or one next to it, or all that the other has.
@@ -17,13 +17,15 @@ fn meet(random: &mut Random, node: &mut NodePlan) {
     let one = random.below(count);
     let other = (one + random.between(1, count - 1)) % count;
     let pair = [one as usize, other as usize];
-    let [short, long] = match node.streams[pair[0]].0 <= node.streams[pair[1]].0 {
+    let [short, long] = match node.streams[pair[0]].period <= node.streams[pair[1]].period {
         true => pair,
         false => [pair[1], pair[0]],
     };
-    let (period, deadline) = node.streams[short];
-    let longest = node.streams[long].0;
-    node.streams[long] = match random.weighted(&[35, 35, 10, 20]) {
+    let StreamPlan {
+        period, deadline, ..
+    } = node.streams[short];
+    let longest = node.streams[long].period;
+    let (period, deadline) = match random.weighted(&[35, 35, 10, 20]) {
         // The period decides.
         0 => (longest, deadline),
         // The deadline goes against the period.
@@ -32,6 +34,7 @@ fn meet(random: &mut Random, node: &mut NodePlan) {
         // The number decides.
         _ => (period, deadline),
     };
+    node.streams[long] = StreamPlan::steady(period, deadline);
 }
 
 /// Brings deadlines of a node together, for `share` of 100 nodes.
@@ -62,9 +65,10 @@ pub(super) fn sharpen_deadline(sheet: &mut [u32], random: &mut Random) -> Option
     sharp
 }
 
-/// Index of the period of a stream in a valid sheet.
-fn place(sheet: &[u32], bus: &Bus, stream: usize) -> usize {
-    sheet.len() - 2 * bus.streams().len() + 2 * stream
+/// Index of the period of a stream in a valid sheet; its deadline and its
+/// jitter follow.
+pub(super) fn place(sheet: &[u32], bus: &Bus, stream: usize) -> usize {
+    sheet.len() - STREAM_WORDS * (bus.streams().len() - stream)
 }
 
 /// Shortens the deadlines of a node to little more than the deliveries, with
@@ -133,8 +137,13 @@ pub(super) fn limit_tries(sheet: &mut [u32], most: u64) {
     }
     let streams = bus.streams().len();
     let latest = bounded(most / streams as u64 * bus.cycle());
-    let bodies = sheet.len() - 2 * streams;
-    for stream in sheet[bodies..].chunks_exact_mut(2) {
-        stream[1] = stream[1].min(latest);
+    shorten_deadlines(sheet, streams, latest);
+}
+
+/// None of a valid sheet with so many streams stays longer than this.
+pub(super) fn shorten_deadlines(sheet: &mut [u32], streams: usize, longest: u32) {
+    let bodies = sheet.len() - STREAM_WORDS * streams;
+    for stream in sheet[bodies..].chunks_exact_mut(STREAM_WORDS) {
+        stream[1] = stream[1].min(longest);
     }
 }

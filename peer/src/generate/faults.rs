@@ -1,7 +1,7 @@
 //! Faults in sheets and logs.
 
 use super::random::Random;
-use crate::sheet::LAST_TICK;
+use crate::sheet::{LAST_TICK, STREAM_WORDS};
 
 /// Where the words of a sheet stand before anything is spoiled.
 struct Layout {
@@ -17,7 +17,7 @@ impl Layout {
     /// Index of a period; None if the sheet has no stream.
     fn period(&self, random: &mut Random) -> Option<usize> {
         let body = (3 + 3 * self.nodes) as usize;
-        (self.streams > 0).then(|| body + 2 * random.below(self.streams) as usize)
+        (self.streams > 0).then(|| body + STREAM_WORDS * random.below(self.streams) as usize)
     }
 }
 
@@ -33,18 +33,19 @@ fn spoil_row(random: &mut Random, sheet: &mut [u32], row: usize) {
     };
 }
 
-fn spoil_stream(random: &mut Random, sheet: &mut [u32], period: usize) {
-    if random.percent(50) {
-        let deadline = sheet[period + 1];
-        sheet[period] = random.pick(&[0, 0, 1, deadline - 1, LAST_TICK, LAST_TICK + 1, u32::MAX]);
-    } else {
-        let above = sheet[period] + 1;
-        sheet[period + 1] = random.pick(&[0, 0, 1, above - 1, above, LAST_TICK + 1, u32::MAX]);
-    }
+fn spoil_stream(random: &mut Random, sheet: &mut [u32], place: usize) {
+    let (period, deadline) = (sheet[place], sheet[place + 1]);
+    let past = LAST_TICK + 1;
+    let field = random.weighted(&[35, 35, 30]);
+    sheet[place + field] = match field {
+        0 => random.pick(&[0, 0, 1, deadline - 1, LAST_TICK, past, u32::MAX]),
+        1 => random.pick(&[0, 0, 1, period, period + 1, past, u32::MAX]),
+        _ => random.pick(&[0, period - 1, period, period, period, period + 1, u32::MAX]),
+    };
 }
 
 fn spoil_word(random: &mut Random, sheet: &mut [u32], layout: &Layout) {
-    match random.weighted(&[10, 10, 10, 40, 30]) {
+    match random.weighted(&[10, 10, 10, 35, 35]) {
         0 => sheet[0] = random.pick(&[0, 0, 1, 16, 17, 17, 18, u32::MAX]),
         1 => sheet[1] = random.pick(&[0, 0, 1, 10_000, 10_001, 10_001, u32::MAX]),
         2 => sheet[2] = random.pick(&[0, 0, 1, 10_000, 10_001, 10_001, u32::MAX]),
@@ -91,7 +92,7 @@ fn junk(random: &mut Random) -> Vec<u32> {
 /// Leaves most sheets as they are.
 pub(super) fn damage_sheet(random: &mut Random, sheet: &mut Vec<u32>) {
     let nodes = u64::from(sheet[0]);
-    let streams = (sheet.len() as u64 - 3 - 3 * nodes) / 2;
+    let streams = (sheet.len() as u64 - 3 - 3 * nodes) / STREAM_WORDS as u64;
     let layout = Layout { nodes, streams };
     match random.weighted(&[78, 12, 3, 3, 2, 2]) {
         0 => {}

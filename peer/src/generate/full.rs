@@ -6,7 +6,7 @@
 use super::loads::{Load, Share};
 use super::long::Ladder;
 use super::random::Random;
-use super::sheets::{bounded, fill_roomy, Plan, Valid};
+use super::sheets::{bounded, fill_roomy, Plan, StreamPlan, Valid};
 use super::MOST_TRIES;
 use crate::admission::search;
 use crate::sheet::{LAST_TICK, MOST_STREAMS_A_NODE};
@@ -45,7 +45,7 @@ fn budget(random: &mut Random, kind: Kind, usual: u32) -> u32 {
 
 /// A node that is filled.
 struct Filled {
-    streams: Vec<(u32, u32)>,
+    streams: Vec<StreamPlan>,
     /// The place of the stream below those that fill the node.
     lowest: usize,
     /// The J of that stream if it is found, whether or not in time.
@@ -60,8 +60,13 @@ struct Filling {
     turn: u64,
     /// No search is to go on for more cycles.
     most: u64,
-    /// Period and deadline.
-    streams: Vec<(u32, u32)>,
+    streams: Vec<StreamPlan>,
+}
+
+/// A jitter for a stream above the lowest.
+fn jitter(random: &mut Random, period: u64) -> u64 {
+    let any = random.below(period);
+    random.pick(&[0, 0, 0, 1, any, any, period - 1])
 }
 
 impl Filling {
@@ -93,10 +98,12 @@ impl Filling {
         };
         let wanted = self.wanted(random);
         let periods = share.periods(random, load, wanted);
-        for period in periods {
-            let shorter = random.between(1, u64::from(period)) as u32;
+        let jittery = random.percent(50);
+        for period in periods.into_iter().map(u64::from) {
+            let shorter = random.between(1, period);
             let deadline = random.pick(&[period, shorter, 1]);
-            self.streams.push((period, deadline));
+            let jitter = if jittery { jitter(random, period) } else { 0 };
+            self.streams.push(StreamPlan::new(period, deadline, jitter));
         }
         if load == Load::Below && random.percent(40) {
             self.add_slow(random, wanted);
@@ -114,8 +121,8 @@ impl Filling {
         let usual = random.between(shortest, u64::from(LAST_TICK));
         for _ in 0..random.between(1, room.min(4)) {
             let other = random.between(shortest, u64::from(LAST_TICK));
-            let period = bounded(random.pick(&[usual, usual, other, shortest]));
-            self.streams.push((period, period));
+            let period = random.pick(&[usual, usual, other, shortest]);
+            self.streams.push(StreamPlan::new(period, period, 0));
         }
     }
 
@@ -123,17 +130,15 @@ impl Filling {
         let mut ladder = Ladder::new(plan, node);
         let (wanted, most) = (self.wanted(random), random.between(4, 14));
         ladder.fill(random, wanted, most as usize);
-        let streams = ladder.streams.into_iter();
-        self.streams = streams
-            .map(|(period, deadline)| (bounded(period), bounded(deadline)))
-            .collect();
+        self.streams = ladder.streams();
     }
 
+    /// Without jitter.
     fn delivery(&self, cycles: u64) -> u64 {
         cycles * self.cycle - 1 + self.turn
     }
 
-    /// A deadline for a stream with this J: mostly the last in time and the
+    /// A deadline for a stream with this J and no jitter: mostly the last in time and the
     /// first that is late, else others that end the search before, at or after
     /// it. With no J, any that ends it.
     fn deadline(&self, random: &mut Random, cycles: Option<u64>) -> u64 {
@@ -154,35 +159,48 @@ impl Filling {
         }
     }
 
-    /// Adds a stream below all others with this deadline, of 2 or more. Theirs
-    /// become shorter, or as long where the period decides.
+    /// Adds a stream below all others with this deadline, of 2 or more, which a
+    /// jitter makes longer. Theirs become shorter, or as long where the period
+    /// decides.
     fn add_lowest(&mut self, random: &mut Random, deadline: u32) {
+        // Not much longer than the deadline, so that a program without the
+        // jitter has no endless search.
+        let ticks = [self.cycle, deadline.into(), 4 * u64::from(deadline)];
+        let [little, some, more] = ticks.map(|ticks| random.below(ticks) as u32);
+        let jitter = random.pick(&[0, 0, 0, 0, 1, little, some, more]);
+        let jitter = jitter.min(LAST_TICK - deadline);
+        let deadline = deadline + jitter;
         let longer = random.between(u64::from(deadline), u64::from(LAST_TICK)) as u32;
-        let periods = self.streams.iter().map(|stream| stream.0);
+        let periods = self.streams.iter().map(|stream| stream.period);
         let slowest = periods.fold(deadline, u32::max);
         let period = random.pick(&[deadline, longer, slowest, LAST_TICK]);
         for stream in &mut self.streams {
-            let tied = (deadline..period).contains(&stream.0) && random.percent(30);
-            stream.1 = match tied {
+            let tied = (deadline..period).contains(&stream.period) && random.percent(30);
+            stream.deadline = match tied {
                 true => deadline,
-                false => stream.1.min(deadline - 1),
+                false => stream.deadline.min(deadline - 1),
             };
         }
-        self.streams.push((period, deadline));
+        self.streams.push(StreamPlan {
+            period,
+            deadline,
+            jitter,
+        });
     }
 
     /// Adds the lowest stream and seldom one more below it.
     fn finish(mut self, random: &mut Random) -> Filled {
-        let above = self.streams.iter().map(|stream| u64::from(stream.0));
+        let above = self.streams.iter().map(StreamPlan::above);
         let found = search(above, self.cycle, self.budget, self.most);
         let cycles = found.map(|found| found.0);
         let deadline = bounded(self.deadline(random, cycles).max(2));
         let place = self.streams.len();
         self.add_lowest(random, deadline);
         if place + 1 < MOST_STREAMS_A_NODE && random.percent(15) {
-            let later = u64::from(deadline) + random.pick(&[1, self.cycle]);
-            let later = bounded(later);
-            self.streams.push((later.max(self.streams[place].0), later));
+            let lowest = self.streams[place];
+            let later = u64::from(lowest.deadline) + random.pick(&[1, self.cycle]);
+            let period = later.max(lowest.period.into());
+            self.streams.push(StreamPlan::new(period, later, 0));
         }
         let count = self.streams.len();
         // An admission ends at the first stream that is late, which those above

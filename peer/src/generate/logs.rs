@@ -1,10 +1,12 @@
 //! Logs of many kinds.
 
+use std::iter::once;
+
 use super::lower_of_two;
 use super::random::Random;
 use crate::admission::least_cycles;
 use crate::log::MOST_RELEASES;
-use crate::sheet::{Bus, LAST_TICK};
+use crate::sheet::{Bus, Stream, LAST_TICK};
 
 /// Tick and running stream number.
 type Release = (u32, u32);
@@ -16,7 +18,7 @@ pub(super) struct Traffic<'a> {
     pub streams: u32,
     /// The releases come before this tick, by and large.
     pub span: u64,
-    /// The stream that has a deadline at the edge.
+    /// The stream that is at the edge of the late test.
     pub sharp: Option<usize>,
 }
 
@@ -116,7 +118,30 @@ fn during_turns(random: &mut Random, traffic: &Traffic) -> Vec<Release> {
     releases
 }
 
-/// Every stream keeps its period.
+/// How long after its event a message is queued: at once, as late as the jitter
+/// allows and the next at once, so that two come close together, or at any time.
+#[derive(Clone, Copy)]
+enum Queuing {
+    AtOnce,
+    LateThenEarly,
+    Any,
+}
+
+impl Queuing {
+    fn delay(self, random: &mut Random, number: u64, jitter: u64) -> u64 {
+        match self {
+            Queuing::AtOnce => 0,
+            Queuing::LateThenEarly => (number + 1) % 2 * jitter,
+            Queuing::Any => {
+                let any = random.below(jitter + 1);
+                random.pick(&[0, any, jitter])
+            }
+        }
+    }
+}
+
+/// Every stream keeps its period: its events are that far apart, from up to the
+/// jitter before tick 0 on.
 fn periodic(random: &mut Random, traffic: &Traffic) -> Vec<Release> {
     let mut releases = Vec::new();
     let Some(bus) = traffic.bus else {
@@ -124,19 +149,23 @@ fn periodic(random: &mut Random, traffic: &Traffic) -> Vec<Release> {
     };
     let most = 400 / bus.streams().len().max(1) + 2;
     let together = random.percent(40);
+    let queuing = random.pick(&[Queuing::AtOnce, Queuing::LateThenEarly, Queuing::Any]);
     for (index, stream) in bus.streams().iter().enumerate() {
-        let period = u64::from(stream.period);
-        let mut tick = match together {
+        let (period, jitter) = (u64::from(stream.period), u64::from(stream.jitter));
+        // An event is named by the last tick at which its message is queued.
+        let mut last = match together {
             true => 0,
             false => random.below(period.min(traffic.span.max(1))),
         };
-        for _ in 0..most {
+        for number in 0..most as u64 {
+            let delay = queuing.delay(random, number, jitter);
+            let tick = (last + delay).saturating_sub(jitter);
             if tick >= traffic.span {
                 break;
             }
             releases.push((tick as u32, index as u32 + 1));
             let late = random.pick(&[0, 0, 1, period / 3]);
-            tick += period + random.below(late + 1);
+            last += period + random.below(late + 1);
         }
     }
     releases
@@ -161,8 +190,9 @@ fn before_the_end(random: &mut Random, traffic: &Traffic) -> Vec<Release> {
 
 /// The log in which a stream waits longest, if a log has room for it: the
 /// stream releases just after a turn of its node has started, and so do those
-/// above it, as often as they may. All others have so much waiting from the
-/// start that their turns are full, and so is the one that takes the message.
+/// above it, as late after their events as they may, and then as often as they
+/// may. All others have so much waiting from the start that their turns are
+/// full, and so is the one that takes the message.
 fn longest_wait(random: &mut Random, traffic: &Traffic) -> Option<Vec<Release>> {
     let bus = traffic.bus?;
     let any = lower_of_two(random, bus)?;
@@ -184,8 +214,11 @@ fn longest_wait(random: &mut Random, traffic: &Traffic) -> Option<Vec<Release>> 
             releases.extend((0..full.min(most)).map(|_| (0, one)));
         }
         for other in regular {
-            let period = bus.streams()[other].period as usize;
-            let ticks = (start + 1..=last).step_by(period).take(most);
+            let Stream { period, jitter, .. } = bus.streams()[other];
+            // The first is queued the jitter after its event.
+            let next = start + 1 + u64::from(period - jitter);
+            let ticks = (next..=last).step_by(period as usize);
+            let ticks = once(start + 1).chain(ticks).take(most);
             releases.extend(ticks.map(|tick| (tick as u32, other as u32 + 1)));
         }
     }

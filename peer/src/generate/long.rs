@@ -3,13 +3,33 @@
 use std::iter::repeat_n;
 
 use super::random::Random;
-use super::sheets::{bounded, fill_roomy, NodePlan, Plan};
+use super::sheets::{fill_roomy, NodePlan, Plan, StreamPlan};
 use super::MOST_TRIES;
-use crate::admission::search;
+use crate::admission::{search, Above};
 use crate::sheet::{LAST_TICK, MOST_STREAMS_A_NODE};
 
 /// Shares of a place in a turn are counted in parts of this.
 const WHOLE: u64 = 1 << 32;
+
+/// A stream that may still be out of range.
+#[derive(Clone, Copy)]
+struct Rung {
+    period: u64,
+    deadline: u64,
+    jitter: u64,
+}
+
+impl Rung {
+    /// With a jitter that takes up to the whole of these spare ticks.
+    fn new(random: &mut Random, period: u64, deadline: u64, spare: u64) -> Rung {
+        let some = random.below(spare + 1);
+        Rung {
+            period,
+            deadline,
+            jitter: random.pick(&[0, 0, 0, some, spare]),
+        }
+    }
+}
 
 /// A node that is filled from the highest rank down, with each stream in time.
 pub(super) struct Ladder {
@@ -17,8 +37,8 @@ pub(super) struct Ladder {
     budget: u64,
     /// A turn that takes the whole budget.
     turn: u64,
-    /// Period and deadline; neither falls from one to the next.
-    pub streams: Vec<(u64, u64)>,
+    /// Neither period nor deadline falls from one to the next.
+    rungs: Vec<Rung>,
 }
 
 impl Ladder {
@@ -28,15 +48,30 @@ impl Ladder {
             cycle: plan.cycle(),
             budget,
             turn: budget * u64::from(plan.message) + u64::from(plan.slot),
-            streams: vec![],
+            rungs: vec![],
         }
+    }
+
+    /// The streams, in range.
+    pub fn streams(&self) -> Vec<StreamPlan> {
+        let rungs = self.rungs.iter();
+        rungs
+            .map(|rung| StreamPlan::new(rung.period, rung.deadline, rung.jitter))
+            .collect()
     }
 
     /// The delivery of a stream below all of these and `further` ones that
     /// release once each while it waits.
     fn delivery(&self, further: usize) -> u64 {
-        let periods = self.streams.iter().map(|stream| stream.0);
-        let above = periods.chain(repeat_n(u64::from(LAST_TICK), further));
+        let above = self.rungs.iter().map(|rung| Above {
+            period: rung.period,
+            jitter: rung.jitter,
+        });
+        let once = Above {
+            period: LAST_TICK.into(),
+            jitter: 0,
+        };
+        let above = above.chain(repeat_n(once, further));
         let found = search(above, self.cycle, self.budget, MOST_TRIES);
         let cycles = found.map_or(MOST_TRIES, |found| found.0);
         cycles * self.cycle - 1 + self.turn
@@ -44,10 +79,8 @@ impl Ladder {
 
     /// What the streams leave of the budget, over many cycles.
     fn free(&self) -> u64 {
-        let taken = self
-            .streams
-            .iter()
-            .map(|stream| self.cycle * WHOLE / stream.0);
+        let rungs = self.rungs.iter();
+        let taken = rungs.map(|rung| self.cycle * WHOLE / rung.period);
         (self.budget * WHOLE).saturating_sub(taken.sum())
     }
 
@@ -56,13 +89,15 @@ impl Ladder {
     /// If a stream is in time with J, 1 / J of a place or more was left and its
     /// period takes less, so that there is always some left for the next.
     pub fn fill(&mut self, random: &mut Random, wanted: u64, most: usize) {
-        while self.streams.len() < most {
+        while self.rungs.len() < most {
             let spare = self.free().saturating_sub(WHOLE / wanted);
             if spare == 0 {
                 return;
             }
-            let (period, deadline) = self.streams.last().copied().unwrap_or((1, 1));
-            let soonest = self.delivery(0).max(deadline);
+            let last = self.rungs.last();
+            let (period, deadline) = last.map_or((1, 1), |last| (last.period, last.deadline));
+            let delivery = self.delivery(0);
+            let soonest = delivery.max(deadline);
             let shortest = soonest.max(period);
             let exact = (self.cycle * WHOLE).div_ceil(spare);
             let more = random.below(self.cycle);
@@ -72,7 +107,8 @@ impl Ladder {
             };
             let deadline = random.between(soonest, period);
             let deadline = random.pick(&[soonest, deadline, period]);
-            self.streams.push((period, deadline));
+            let rung = Rung::new(random, period, deadline, deadline - delivery);
+            self.rungs.push(rung);
             if exact >= shortest {
                 return;
             }
@@ -88,25 +124,25 @@ fn rare_gaps(
     node: usize,
     wanted: u64,
     lower: usize,
-) -> Vec<(u32, u32)> {
+) -> Vec<StreamPlan> {
     let mut ladder = Ladder::new(plan, node);
     ladder.fill(random, wanted, MOST_STREAMS_A_NODE - lower);
     let longest = ladder.delivery(lower - 1);
-    let mut streams = ladder.streams;
     let usual = random.between(longest, 3 * longest);
     for _ in 0..lower {
         let other = random.between(longest, 3 * longest);
         let deadline = random.pick(&[usual, other]);
         let period = random.between(deadline, 3 * longest);
         let period = random.pick(&[deadline, period]);
-        streams.push((period, deadline));
+        // One that releases twice may make another wait for one gap more.
+        let spare = (deadline - longest).min(period - deadline);
+        let rung = Rung::new(random, period, deadline, spare);
+        ladder.rungs.push(rung);
     }
+    let mut streams = ladder.streams();
     let turned = random.below(streams.len() as u64) as usize;
     streams.rotate_left(turned);
-    let streams = streams.into_iter();
     streams
-        .map(|(period, deadline)| (bounded(period), bounded(deadline)))
-        .collect()
 }
 
 /// Streams that wait for many cycles, up to some thousand.

@@ -2,7 +2,8 @@
 //! few that go beyond the limits which the generated ones keep to.
 
 use super::named_full::full_nodes;
-use super::sheets::{NodePlan, Plan};
+use super::named_jitters::jitters;
+use super::sheets::{steady, NodePlan, Plan, StreamPlan};
 use super::Case;
 use crate::sheet::LAST_TICK;
 use crate::{Record, NOT_BEGUN};
@@ -10,7 +11,7 @@ use crate::{Record, NOT_BEGUN};
 pub(super) type Named = (&'static str, Case);
 
 /// Two nodes, three streams, a cycle of 17 ticks.
-const SMALL: [u32; 15] = [2, 5, 1, 9, 2, 1, 13, 1, 2, 40, 40, 60, 60, 30, 30];
+pub(super) const SMALL: [u32; 18] = [2, 5, 1, 9, 2, 1, 15, 1, 2, 40, 40, 0, 60, 60, 0, 30, 30, 0];
 
 fn fresh() -> Record {
     Record {
@@ -42,26 +43,24 @@ pub(super) fn asking(mut case: Case, node: u32, stream: u32) -> Case {
 }
 
 pub(super) fn one_node(message: u32, slot: u32, budget: u32, streams: &[(u32, u32)]) -> Vec<u32> {
-    let streams = streams.to_vec();
-    let nodes = vec![NodePlan { budget, streams }];
-    Plan {
-        message,
-        slot,
-        nodes,
-    }
-    .words()
+    nodes_alike(1, [message, slot, budget], &steady(streams))
 }
 
 fn sixteen(message: u32, slot: u32, budget: u32, streams: &[(u32, u32)]) -> Vec<u32> {
+    nodes_alike(16, [message, slot, budget], &steady(streams))
+}
+
+/// So many nodes with the same budget and streams.
+pub(super) fn nodes_alike(count: usize, words: [u32; 3], streams: &[StreamPlan]) -> Vec<u32> {
+    let [message, slot, budget] = words;
     let node = || NodePlan {
         budget,
         streams: streams.to_vec(),
     };
-    let nodes = (0..16).map(|_| node()).collect();
     Plan {
         message,
         slot,
-        nodes,
+        nodes: (0..count).map(|_| node()).collect(),
     }
     .words()
 }
@@ -153,7 +152,7 @@ fn long_wait() -> Vec<Named> {
     let least = 2_570_000 - 1 + 20_000;
     let mut nodes = vec![NodePlan {
         budget: 1,
-        streams: vec![(LAST_TICK, LAST_TICK), (least, least)],
+        streams: steady(&[(LAST_TICK, LAST_TICK), (least, least)]),
     }];
     nodes.resize_with(16, || NodePlan {
         budget: 16,
@@ -254,7 +253,11 @@ fn refused() -> Vec<Named> {
         ),
         (
             "both late, the first of lower priority",
-            plain(vec![1, 5, 1, 6, 2, 1, 100, 10, 9, 9], vec![0, 1, 0, 2], 50),
+            plain(
+                one_node(5, 1, 1, &[(100, 10), (9, 9)]),
+                vec![0, 1, 0, 2],
+                50,
+            ),
         ),
     ]
 }
@@ -266,10 +269,15 @@ fn out_of_range() -> Vec<Named> {
         sheet[place] = word;
         plain(sheet, vec![0, 1], 40)
     };
+    let old = vec![2, 5, 1, 9, 2, 1, 13, 1, 2, 40, 40, 60, 60, 30, 30];
     vec![
         ("seventeen nodes", small_with(0, 17)),
         ("a slot of 10001 ticks", small_with(2, 10_001)),
-        ("a deadline above the period", small_with(12, 61)),
+        ("a deadline above the period", small_with(13, 61)),
+        ("a jitter at the period", small_with(14, 60)),
+        ("the last jitter at the period", small_with(17, 30)),
+        ("a jitter of all ones", small_with(11, u32::MAX)),
+        ("a sheet of two words a stream", plain(old, vec![0, 1], 40)),
     ]
 }
 
@@ -306,7 +314,7 @@ fn ranks() -> Vec<Named> {
 fn deliveries() -> Vec<Named> {
     let p2 = |deadline: u32| {
         let mut sheet = SMALL.to_vec();
-        (sheet[10], sheet[12]) = (deadline, deadline);
+        (sheet[10], sheet[13]) = (deadline, deadline);
         asking(plain(sheet, vec![0, 1, 0, 2, 1, 3], 60), 1, 2)
     };
     let p7 = |first: u32| {
@@ -315,7 +323,10 @@ fn deliveries() -> Vec<Named> {
     };
     let first_of_two = |deadline: u32| {
         let nodes = [(2, vec![(100, deadline), (100, 100)]), (1, vec![(30, 30)])];
-        let nodes = nodes.map(|(budget, streams)| NodePlan { budget, streams });
+        let nodes = nodes.map(|(budget, streams)| NodePlan {
+            budget,
+            streams: steady(&streams),
+        });
         let plan = Plan {
             message: 5,
             slot: 1,
@@ -333,7 +344,10 @@ fn deliveries() -> Vec<Named> {
     // 31,623 cycles of 31,622 ticks; the other leaves no turn free before.
     let last_cycle = |deadline: u32| {
         let streams = vec![(LAST_TICK, deadline), (31_623, 1)];
-        let nodes = [streams, vec![]].map(|streams| NodePlan { budget: 1, streams });
+        let nodes = [streams, vec![]].map(|streams| NodePlan {
+            budget: 1,
+            streams: steady(&streams),
+        });
         let plan = Plan {
             message: 10_000,
             slot: 5_811,
@@ -369,6 +383,7 @@ pub fn named() -> Vec<Named> {
         ranks(),
         deliveries(),
         full_nodes(),
+        jitters(),
     ]
     .concat()
 }

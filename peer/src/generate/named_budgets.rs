@@ -2,16 +2,14 @@
 //! the far ends of the ranges.
 
 use super::budgets::BudgetsCase;
-use super::sheets::{NodePlan, Plan};
+use super::named::SMALL;
+use super::sheets::{steady, NodePlan, Plan, StreamPlan};
 use crate::sheet::LAST_TICK;
 
 type Named = (&'static str, BudgetsCase);
 
 /// Period and deadline of each stream of a node.
 type Streams = Vec<(u32, u32)>;
-
-/// Two nodes, three streams; all ones are enough.
-const SMALL: [u32; 15] = [2, 5, 1, 9, 2, 1, 13, 1, 2, 40, 40, 60, 60, 30, 30];
 
 fn in_room(length: u32, sheet: Vec<u32>) -> BudgetsCase {
     let room = (0..length).map(|place| 3_000_000_000 + place).collect();
@@ -21,7 +19,13 @@ fn in_room(length: u32, sheet: Vec<u32>) -> BudgetsCase {
 /// Each node has the same budget in the sheet, and the room two words more than
 /// a row.
 fn nodes(message: u32, slot: u32, budget: u32, nodes: &[Streams]) -> BudgetsCase {
-    let nodes = nodes.iter().cloned();
+    let nodes: Vec<_> = nodes.iter().map(|streams| steady(streams)).collect();
+    jittery(message, slot, budget, nodes)
+}
+
+/// The same with jitters.
+fn jittery(message: u32, slot: u32, budget: u32, nodes: Vec<Vec<StreamPlan>>) -> BudgetsCase {
+    let nodes = nodes.into_iter();
     let plan = Plan {
         message,
         slot,
@@ -82,7 +86,34 @@ fn rows() -> Vec<Named> {
             "empty nodes around one that needs 3",
             nodes(1, 9, 5, &[vec![], vec![(90, 59); 3], vec![]]),
         ),
+        ("a jitter of 8 that 1 allows", last_of_two(8)),
+        ("a jitter of 9 that takes 2", last_of_two(9)),
+        ("a jitter of 16 that takes 2", last_of_two(16)),
+        ("a jitter of 15 above that 1 allows", first_of_three(15)),
+        ("a jitter of 16 above that takes 2", first_of_three(16)),
     ]
+}
+
+/// One node with streams of this deadline, in the order of their rank; cycles
+/// of 10 ticks with budget 1, and of 11 with 2.
+fn alike(deadline: u32, streams: &[(u32, u32)]) -> BudgetsCase {
+    let streams = streams.iter().map(|&(period, jitter)| StreamPlan {
+        period,
+        deadline,
+        jitter,
+    });
+    jittery(1, 9, 16, vec![streams.collect()])
+}
+
+/// The second waits for two cycles with 1, and for one with 2.
+fn last_of_two(jitter: u32) -> BudgetsCase {
+    alike(37, &[(37, 0), (90, jitter)])
+}
+
+/// With 1 the third waits for three cycles, or for one more if the first can
+/// release twice within those.
+fn first_of_three(jitter: u32) -> BudgetsCase {
+    alike(45, &[(45, jitter), (60, 0), (90, 0)])
 }
 
 fn no_rows() -> Vec<Named> {
@@ -111,6 +142,9 @@ fn no_rows() -> Vec<Named> {
             "behind one that is in time at 16",
             nodes(1, 70, 2, &at_sixteen),
         ),
+        ("a jitter of 17 that no row allows", last_of_two(17)),
+        ("a jitter at the deadline", last_of_two(37)),
+        ("a jitter above the deadline", last_of_two(89)),
         (
             "more only makes it later",
             nodes(10_000, 10_000, 16, &[vec![(29_998, 29_998)]]),
@@ -131,7 +165,8 @@ fn refused() -> Vec<Named> {
         ("a slot of 10001 ticks, a short room", small_with(2, 10_001)),
         ("a budget of 0, a short room", small_with(5, 0)),
         ("a budget of 17, a short room", small_with(8, 17)),
-        ("a deadline of 0, a short room", small_with(12, 0)),
+        ("a deadline of 0, a short room", small_with(13, 0)),
+        ("a jitter of 60, a short room", small_with(14, 60)),
         ("a good sheet, no room", in_room(0, SMALL.to_vec())),
         ("a good sheet, a room of 2", in_room(2, SMALL.to_vec())),
         ("a good sheet, a room of 15", in_room(15, SMALL.to_vec())),

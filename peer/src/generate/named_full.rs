@@ -2,7 +2,7 @@
 //! or overfill.
 
 use super::named::{asking, one_node, plain, Named};
-use super::sheets::{NodePlan, Plan};
+use super::sheets::{steady, NodePlan, Plan};
 use super::Case;
 use crate::sheet::LAST_TICK;
 
@@ -32,7 +32,7 @@ fn fifteen(other: u32, deadline: u32) -> Case {
 fn in_time(others: usize, streams: &[(u32, u32)]) -> Case {
     let mut nodes = vec![NodePlan {
         budget: 1,
-        streams: streams.to_vec(),
+        streams: steady(streams),
     }];
     nodes.resize_with(1 + others, || NodePlan {
         budget: 16,

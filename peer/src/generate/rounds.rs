@@ -2,12 +2,12 @@
 //! a sum of all budgets, since the cycle depends on that sum alone.
 
 use super::random::Random;
-use super::sheets::{bounded, node_count, slot_length, NodePlan, Plan};
+use super::sheets::{bounded, node_count, slot_length, NodePlan, Plan, StreamPlan};
 use crate::admission::search;
 use crate::sheet::MOST_STREAMS_A_NODE;
 
-/// Period and deadline of each stream of a node.
-type Streams = Vec<(u32, u32)>;
+/// The streams of a node.
+type Streams = Vec<StreamPlan>;
 
 /// No stream is planned to wait for more cycles.
 const MOST_CYCLES: u64 = 50;
@@ -61,19 +61,34 @@ fn line(random: &mut Random, nodes: u64) -> Line {
     }
 }
 
-fn stream(random: &mut Random, deadline: u64) -> (u32, u32) {
-    let longer = random.below(2 * deadline);
-    let period = deadline + random.pick(&[0, 1, longer]);
-    (bounded(period), bounded(deadline))
+fn jitter(random: &mut Random, usual: u64) -> u64 {
+    let any = random.below(2 * usual);
+    random.pick(&[0, 0, 0, 0, 0, 1, any])
 }
 
-/// Streams of one deadline, which with this budget are delivered just in time
-/// for as long as the sum is no more than this.
+/// A stream that is in time if it is delivered so many ticks after it was
+/// queued, however late that was: its jitter makes the deadline longer.
+fn stream(random: &mut Random, ticks: u64, jitter: u64) -> StreamPlan {
+    let deadline = ticks + jitter;
+    let longer = random.below(2 * deadline);
+    let period = deadline + random.pick(&[0, 1, longer]);
+    StreamPlan::new(period, deadline, jitter)
+}
+
+fn jittery_stream(random: &mut Random, ticks: u64) -> StreamPlan {
+    let jitter = jitter(random, ticks);
+    stream(random, ticks, jitter)
+}
+
+/// Streams of one deadline but for their jitters, which with this budget are
+/// delivered just in time for as long as the sum is no more than this.
 fn alike(random: &mut Random, line: &Line, count: u64, budget: u64, sum: u64) -> Streams {
     let cycles = count.div_ceil(budget).max(1);
     let more = random.below(line.message);
     let deadline = line.delivery(cycles, sum, budget) + random.pick(&[0, 0, more]);
-    (0..count).map(|_| stream(random, deadline)).collect()
+    (0..count)
+        .map(|_| jittery_stream(random, deadline))
+        .collect()
 }
 
 /// The first stream is served in the first cycle, whatever the budget, and is
@@ -82,9 +97,9 @@ fn alike(random: &mut Random, line: &Line, count: u64, budget: u64, sum: u64) ->
 fn hopeless(random: &mut Random, line: &Line, sum: u64) -> Streams {
     let deadline = line.delivery(1, sum, 1) - 1;
     let calm = line.delivery(20, 16 * line.nodes, 16);
-    let mut streams = vec![stream(random, deadline)];
+    let mut streams = vec![jittery_stream(random, deadline)];
     for _ in 0..random.pick(&[0, 0, 1, 3]) {
-        streams.push(stream(random, calm));
+        streams.push(jittery_stream(random, calm));
     }
     let turned = random.below(streams.len() as u64) as usize;
     streams.rotate_left(turned);
@@ -96,17 +111,20 @@ fn hopeless(random: &mut Random, line: &Line, sum: u64) -> Streams {
 fn filled(random: &mut Random, line: &Line, count: u64, budget: u64, sum: u64) -> Streams {
     let mut streams = Streams::new();
     for _ in 0..count {
-        let above = streams.iter().map(|stream| u64::from(stream.0));
+        let above = streams.iter().map(StreamPlan::above);
         let Some((cycles, _)) = search(above, line.cycle(sum), budget, MOST_CYCLES) else {
             break;
         };
-        let (period, deadline) = streams.last().copied().unwrap_or((1, 1));
+        let last = streams.last().copied();
+        let last = last.unwrap_or(StreamPlan::steady(1, 1));
         let more = random.below(line.cycle(sum));
         let more = random.pick(&[0, 0, 1, more]);
         let edge = line.delivery(cycles, sum, budget) + more;
-        let own = stream(random, edge.max(u64::from(deadline)));
-        // No shorter period, so that the rank stays the order of the list.
-        streams.push((own.0.max(period), own.1));
+        let mut own = jittery_stream(random, edge);
+        // Neither is shorter, so that the rank stays the order of the list.
+        own.deadline = own.deadline.max(last.deadline);
+        own.period = own.period.max(last.period);
+        streams.push(own);
     }
     let turned = random.below(streams.len() as u64) as usize;
     streams.rotate_left(turned);
@@ -188,12 +206,16 @@ impl Link {
     fn streams(&self, random: &mut Random, line: &Line, last_sum: u64) -> Streams {
         let first = line.delivery(1, last_sum, self.streams);
         let second = line.delivery(2, self.sum, self.half) - 1;
+        // One for all, so that the halves keep their rank.
+        let jitter = jitter(random, first);
         let mut streams = Streams::new();
         for number in 0..self.streams {
             // None releases twice while another waits for the second cycle.
-            let (period, deadline) = stream(random, second);
-            let first = bounded(first);
-            streams.push((period, if number < self.half { first } else { deadline }));
+            let mut own = stream(random, second, jitter);
+            if number < self.half {
+                own.deadline = bounded(first + jitter);
+            }
+            streams.push(own);
         }
         streams
     }

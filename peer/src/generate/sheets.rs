@@ -2,15 +2,60 @@
 
 use super::deadlines::{meet_deadlines, sharpen_deadline};
 use super::full::full_sheet;
+use super::jitters::{add_jitters, sharpen_jitter};
 use super::long::{fill_long_search, fill_long_wait};
 use super::random::Random;
 use super::MOST_TRIES;
-use crate::sheet::LAST_TICK;
+use crate::admission::Above;
+use crate::sheet::{LAST_TICK, STREAM_WORDS};
+
+#[derive(Clone, Copy, Default)]
+pub(super) struct StreamPlan {
+    pub period: u32,
+    pub deadline: u32,
+    pub jitter: u32,
+}
+
+impl StreamPlan {
+    /// The nearest in range, as long as the deadline is no longer than the
+    /// period.
+    pub fn new(period: u64, deadline: u64, jitter: u64) -> StreamPlan {
+        let period = bounded(period);
+        StreamPlan {
+            period,
+            deadline: bounded(deadline),
+            jitter: jitter.min(u64::from(period) - 1) as u32,
+        }
+    }
+
+    /// Without jitter.
+    pub fn steady(period: u32, deadline: u32) -> StreamPlan {
+        StreamPlan {
+            period,
+            deadline,
+            jitter: 0,
+        }
+    }
+
+    pub fn above(&self) -> Above {
+        Above {
+            period: self.period.into(),
+            jitter: self.jitter.into(),
+        }
+    }
+}
+
+/// Streams without jitter, from periods and deadlines.
+pub(super) fn steady(streams: &[(u32, u32)]) -> Vec<StreamPlan> {
+    let streams = streams.iter();
+    streams
+        .map(|&(period, deadline)| StreamPlan::steady(period, deadline))
+        .collect()
+}
 
 pub(super) struct NodePlan {
     pub budget: u32,
-    /// Period and deadline.
-    pub streams: Vec<(u32, u32)>,
+    pub streams: Vec<StreamPlan>,
 }
 
 pub(super) struct Plan {
@@ -31,10 +76,10 @@ impl Plan {
         for node in &self.nodes {
             let count = node.streams.len() as u32;
             words.extend([place, count, node.budget]);
-            place += 2 * count;
+            place += STREAM_WORDS as u32 * count;
         }
-        for &(period, deadline) in self.nodes.iter().flat_map(|node| &node.streams) {
-            words.extend([period, deadline]);
+        for stream in self.nodes.iter().flat_map(|node| &node.streams) {
+            words.extend([stream.period, stream.deadline, stream.jitter]);
         }
         words
     }
@@ -83,7 +128,7 @@ fn shape(random: &mut Random) -> Plan {
         };
         nodes.push(NodePlan {
             budget: budget as u32,
-            streams: vec![(0, 0); count as usize],
+            streams: vec![StreamPlan::default(); count as usize],
         });
     }
     Plan {
@@ -115,7 +160,7 @@ pub(super) fn fill_roomy(plan: &mut Plan, random: &mut Random) {
                 _ if any_deadline => random.between(1, u64::from(period)),
                 _ => random.between(least.min(u64::from(period)), u64::from(period)),
             };
-            *stream = (period, bounded(deadline));
+            *stream = StreamPlan::steady(period, bounded(deadline));
         }
     }
     meet_deadlines(random, plan, 25);
@@ -137,7 +182,7 @@ fn fill_tied(plan: &mut Plan, random: &mut Random) {
     for stream in plan.nodes.iter_mut().flat_map(|node| &mut node.streams) {
         let period = bounded(random.pick(&periods));
         let deadline = bounded(random.pick(&deadlines));
-        *stream = (period, deadline.min(period));
+        *stream = StreamPlan::steady(period, deadline.min(period));
     }
 }
 
@@ -160,12 +205,12 @@ fn fill_tight(plan: &mut Plan, random: &mut Random) {
         for stream in &mut node.streams {
             let slack = random.between(60, 60 + share);
             let period = bounded(cycle + fair * slack / 100 + random.below(cycle));
-            *stream = (period, period);
+            *stream = StreamPlan::steady(period, period);
         }
         let lowest = random.below(node.streams.len() as u64) as usize;
         if let Some(stream) = node.streams.get_mut(lowest) {
             let period = bounded(fair * random.between(2, 40) + cycle * 4);
-            *stream = (period, shorter(random, period));
+            *stream = StreamPlan::steady(period, shorter(random, period));
         }
     }
     meet_deadlines(random, plan, 35);
@@ -179,13 +224,13 @@ fn fill_edges(plan: &mut Plan, random: &mut Random) {
         for stream in &mut node.streams {
             let near = (random.between(1, 6) * cycle + 1).saturating_sub(random.below(4));
             let period = bounded(near / random.pick(&[1, 1, 1, 2, 3]));
-            *stream = (period, period);
+            *stream = StreamPlan::steady(period, period);
         }
         let count = node.streams.len() as u64;
         let lowest = random.below(count) as usize;
         if let Some(stream) = node.streams.get_mut(lowest) {
             let period = bounded(cycle * (4 * count + random.below(40)));
-            *stream = (period, shorter(random, period));
+            *stream = StreamPlan::steady(period, shorter(random, period));
         }
     }
     meet_deadlines(random, plan, 35);
@@ -212,7 +257,7 @@ pub(super) fn extreme_ticks(random: &mut Random, most: u32) -> u32 {
 fn fill_extreme(plan: &mut Plan, random: &mut Random) {
     for stream in plan.nodes.iter_mut().flat_map(|node| &mut node.streams) {
         let period = extreme_ticks(random, LAST_TICK);
-        *stream = (period, extreme_ticks(random, period));
+        *stream = StreamPlan::steady(period, extreme_ticks(random, period));
     }
     meet_deadlines(random, plan, 25);
 }
@@ -232,8 +277,10 @@ fn fill_overload(plan: &mut Plan, random: &mut Random) {
     let deadline = random.pick(&[period, other]);
     let mut streams = vec![(1, 1); 15];
     streams.insert(random.pick(&[0, 15]), (period, deadline));
-    let budget = 16;
-    plan.nodes = vec![NodePlan { budget, streams }];
+    plan.nodes = vec![NodePlan {
+        budget: 16,
+        streams: steady(&streams),
+    }];
 }
 
 /// A valid sheet.
@@ -241,7 +288,7 @@ pub(super) struct Valid {
     pub sheet: Vec<u32>,
     /// How many tries of J are fair for it.
     pub tries: u64,
-    /// The stream that has a deadline at the edge.
+    /// The stream that is at the edge of the late test.
     pub sharp: Option<usize>,
     /// The stream to ask about.
     pub asked: Option<usize>,
@@ -273,9 +320,11 @@ pub(super) fn valid_sheet(random: &mut Random) -> Valid {
         }
     }
     let mut sheet = plan.words();
-    let sharp = match random.percent(25) {
-        true => sharpen_deadline(&mut sheet, random),
-        false => None,
+    add_jitters(&mut sheet, random);
+    let sharp = match random.weighted(&[65, 20, 15]) {
+        0 => None,
+        1 => sharpen_deadline(&mut sheet, random),
+        _ => sharpen_jitter(&mut sheet, random),
     };
     Valid {
         sheet,

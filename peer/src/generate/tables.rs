@@ -99,14 +99,20 @@ fn budgets(random: &mut Random, nodes: u64) -> Vec<u32> {
     (0..nodes).map(|_| budget(random) as u32).collect()
 }
 
-/// Period and deadline: the ends of the ranges and all between, or, so that
-/// one in the wrong place is told from all others, numbers that count up.
-fn stream(random: &mut Random, counted: Option<u32>, number: u32) -> (u32, u32) {
+/// Period, deadline and jitter: the ends of the ranges and all between, or, so
+/// that one in the wrong place is told from all others, numbers that count up.
+fn stream(random: &mut Random, counted: Option<u32>, number: u32) -> [u32; STREAM_WORDS] {
     if let Some(start) = counted {
-        return (start + 2 * number + 1, start + 2 * number);
+        return [2, 1, 0].map(|more| start + 3 * number + more);
     }
     let period = extreme_ticks(random, LAST_TICK);
-    (period, extreme_ticks(random, period))
+    let deadline = extreme_ticks(random, period);
+    let near = [deadline - 1, deadline, deadline + 1].map(|jitter| jitter.min(period - 1));
+    let jitter = match random.percent(70) {
+        true => extreme_ticks(random, period) - 1,
+        false => random.pick(&near),
+    };
+    [period, deadline, jitter]
 }
 
 fn words(nodes: usize, streams: usize) -> usize {
@@ -129,15 +135,17 @@ fn sound(random: &mut Random, nodes: u64) -> TablesCase {
     let streams: u32 = counts.iter().sum();
     let counted = random.percent(30);
     let counted = counted.then(|| random.between(20, 900_000_000) as u32);
-    let pairs = (0..streams).map(|number| stream(random, counted, number));
-    let (periods, deadlines) = pairs.unzip();
+    let streams = (0..streams).map(|number| stream(random, counted, number));
+    let streams: Vec<[u32; STREAM_WORDS]> = streams.collect();
+    let [periods, deadlines, jitters] =
+        [0, 1, 2].map(|place| streams.iter().map(|stream| stream[place]).collect());
     let further = match random.weighted(&[50, 15, 25, 10]) {
         0 => 0,
         1 => 1,
         2 => random.between(2, 9),
         _ => random.between(10, 700),
     };
-    let length = words(counts.len(), streams as usize) + further as usize;
+    let length = words(counts.len(), streams.len()) + further as usize;
     let tables = Tables {
         message_ticks: slot_length(random),
         slot_ticks: slot_length(random),
@@ -145,6 +153,7 @@ fn sound(random: &mut Random, nodes: u64) -> TablesCase {
         budgets,
         periods,
         deadlines,
+        jitters,
     };
     let room = junk(random, length);
     TablesCase { tables, room }
@@ -188,12 +197,13 @@ impl TablesCase {
     fn shorten_room(&mut self, random: &mut Random) {
         let (nodes, streams) = (self.tables.counts.len(), self.tables.periods.len());
         let full = words(nodes, streams);
-        let length = match random.weighted(&[50, 10, 10, 10, 10, 10]) {
+        let length = match random.weighted(&[50, 10, 10, 5, 5, 10, 10]) {
             0 => full - 1,
             1 => full - 2,
             2 => words(nodes, 0).min(full - 1),
             3 => (words(nodes, 0) + streams).min(full - 1),
-            4 => random.below(full as u64) as usize,
+            4 => (words(nodes, 0) + 2 * streams).min(full - 1),
+            5 => random.below(full as u64) as usize,
             _ => 0,
         };
         self.room.truncate(length);
@@ -210,28 +220,40 @@ impl Tables {
         let deadline = self.deadlines[stream];
         let (below, above) = (deadline.wrapping_sub(1), period.wrapping_add(1));
         let past = LAST_TICK + 1;
-        if random.percent(50) {
-            let choices = [0, 0, 1, below, below, LAST_TICK, past, past, u32::MAX];
-            self.periods[stream] = random.pick(&choices);
-        } else {
-            let choices = [0, 0, 1, period, above, above, past, u32::MAX];
-            self.deadlines[stream] = random.pick(&choices);
+        match random.weighted(&[33, 33, 34]) {
+            0 => {
+                let choices = [0, 0, 1, below, below, LAST_TICK, past, past, u32::MAX];
+                self.periods[stream] = random.pick(&choices);
+            }
+            1 => {
+                let choices = [0, 0, 1, period, above, above, past, u32::MAX];
+                self.deadlines[stream] = random.pick(&choices);
+            }
+            _ => {
+                let last = period.wrapping_sub(1);
+                let choices = [last, period, period, period, period, above, u32::MAX];
+                self.jitters[stream] = random.pick(&choices);
+            }
         }
     }
 
     fn spoil_stream_lengths(&mut self, random: &mut Random) {
         let ticks = [1, 1, 50, LAST_TICK, 0];
-        match random.weighted(&[35, 35, 15, 15]) {
-            0 => resize(random, &mut self.periods, &ticks),
-            1 => resize(random, &mut self.deadlines, &ticks),
-            2 => {
-                resize(random, &mut self.periods, &ticks);
-                self.deadlines.resize(self.periods.len(), 1);
+        let mut lent = [&mut self.periods, &mut self.deadlines, &mut self.jitters];
+        let which = random.below(3) as usize;
+        match random.weighted(&[70, 15, 15]) {
+            0 => resize(random, lent[which], &ticks),
+            1 => {
+                resize(random, lent[0], &ticks);
+                let length = lent[0].len();
+                lent[1..]
+                    .iter_mut()
+                    .for_each(|table| table.resize(length, 1));
             }
             // One over and one missing: together they are as many as before.
             _ => {
-                let deadline = self.deadlines.pop();
-                self.periods.extend(deadline);
+                let word = lent[which].pop();
+                lent[(which + 1) % 3].extend(word);
             }
         }
     }

@@ -4,8 +4,9 @@
 use std::collections::BTreeSet;
 
 use super::edges::{edge, LATE_BY_ONE};
+use super::jitter::without;
 use super::search::found_names;
-use super::{room_kind, Figures};
+use super::{fitting, room_kind, Figures};
 use crate::admission::listed;
 use crate::budgets::{is_late, late_nodes, round, start};
 use crate::generate::budgets_case;
@@ -16,14 +17,15 @@ use crate::{check_sheet, find_budgets};
 const MANY: u64 = 100;
 
 /// What a row that was found may be.
-pub const ROW_NAMES: [&str; 3] = [
+pub const ROW_NAMES: [&str; 4] = [
     "a row above all ones",
     "a budget of 16",
     "a hundred rounds or more",
+    "more than without jitter",
 ];
 
 /// What the node that a refusal 11 names may be.
-pub const NO_ROW_NAMES: [&str; 7] = [
+pub const NO_ROW_NAMES: [&str; 8] = [
     "late in every round",
     "in time at first",
     "behind a late node below 16",
@@ -31,6 +33,7 @@ pub const NO_ROW_NAMES: [&str; 7] = [
     "behind a node in time at 16",
     "before another late node at 16",
     "after a hundred rounds or more",
+    "late for jitter alone",
 ];
 
 /// The names that fit a row to which the sheet is known to lead.
@@ -39,14 +42,17 @@ pub fn row_names(sheet: &[u32], row: &[u32]) -> Vec<&'static str> {
     // Each round gives one more at least, so that few rows ask for a count.
     let may_be_many = u64::from(above) >= MANY;
     let many = may_be_many && round_count(sheet) >= Some(MANY);
-    fitting(ROW_NAMES, [above > 0, row.contains(&16), many])
+    let sum = row.iter().map(|&budget| budget as usize).sum();
+    let more = above > 0 && without_jitter(sheet).is_some_and(|steady| steady.sum() < sum);
+    fitting(ROW_NAMES, [above > 0, row.contains(&16), many, more])
 }
 
 /// The names that fit the node of a refusal 11.
 pub fn no_row_names(sheet: &[u32]) -> Vec<&'static str> {
-    let Some((bus, rounds)) = rounds(sheet, |_| {}) else {
+    let Some(rounds) = rounds(sheet, |_| {}) else {
         return vec![];
     };
+    let Rounds { bus, count, .. } = rounds;
     let full = |node: usize| bus.nodes()[node].budget == MOST_BUDGET;
     let late = late_nodes(&bus);
     let Some(&named) = late.iter().find(|&&node| full(node)) else {
@@ -56,42 +62,66 @@ pub fn no_row_names(sheet: &[u32]) -> Vec<&'static str> {
     let after = || late.iter().filter(|&&node| node > named);
     let fits = [
         // From 1 to 16 it took fifteen of the rounds.
-        rounds == 15,
-        rounds > 15,
+        count == 15,
+        count > 15,
         late[0] < named,
         after().any(|&node| !full(node)),
         before.any(|node| full(node) && !is_late(&bus, node)),
         after().any(|&node| full(node)),
-        rounds >= MANY,
+        count >= MANY,
+        without_jitter(sheet).is_some_and(|steady| steady.found),
     ];
     fitting(NO_ROW_NAMES, fits)
 }
 
-fn fitting<const N: usize>(names: [&'static str; N], fits: [bool; N]) -> Vec<&'static str> {
-    let pairs = names.into_iter().zip(fits);
-    pairs
-        .filter_map(|(name, fits)| fits.then_some(name))
-        .collect()
+/// The rounds as they would go without any jitter.
+fn without_jitter(sheet: &[u32]) -> Option<Rounds> {
+    let bus = Bus::read(sheet).ok()?;
+    let steady = without(&bus, 0..bus.streams().len());
+    Some(Rounds::of(steady, |_| {}))
 }
 
-/// The bus of a valid sheet with the last row of the rounds, and how many gave
-/// anything. Each row is shown before the round that it is judged by.
-fn rounds(sheet: &[u32], mut show: impl FnMut(&Bus)) -> Option<(Bus, u64)> {
-    let mut bus = Bus::read(sheet).ok()?;
-    start(&mut bus);
-    show(&bus);
-    let mut rounds = 0;
-    while round(&mut bus) == Ok(true) {
-        show(&bus);
-        rounds += 1;
+/// What the rounds come to.
+struct Rounds {
+    /// With the last row.
+    bus: Bus,
+    /// How many gave anything.
+    count: u64,
+    /// Whether that row is the one that was looked for.
+    found: bool,
+}
+
+impl Rounds {
+    /// Each row is shown before the round that it is judged by.
+    fn of(mut bus: Bus, mut show: impl FnMut(&Bus)) -> Rounds {
+        start(&mut bus);
+        let mut count = 0;
+        loop {
+            show(&bus);
+            match round(&mut bus) {
+                Ok(true) => count += 1,
+                ended => {
+                    let found = ended.is_ok();
+                    return Rounds { bus, count, found };
+                }
+            }
+        }
     }
-    Some((bus, rounds))
+
+    fn sum(&self) -> usize {
+        self.bus.nodes().iter().map(|node| node.budget).sum()
+    }
+}
+
+/// The rounds of a valid sheet.
+fn rounds(sheet: &[u32], show: impl FnMut(&Bus)) -> Option<Rounds> {
+    Some(Rounds::of(Bus::read(sheet).ok()?, show))
 }
 
 /// How many rounds give anything, whether or not they lead to a row; none for a
 /// sheet that is refused for itself.
 pub fn round_count(sheet: &[u32]) -> Option<u64> {
-    Some(rounds(sheet, |_| {})?.1)
+    Some(rounds(sheet, |_| {})?.count)
 }
 
 pub fn gather_budgets(seed: u64, count: u64) -> Figures {
@@ -144,8 +174,8 @@ fn count_row(figures: &mut Figures, sheet: &[u32], row: &[u32]) {
             kinds.insert("a stream late by one tick on the way");
         }
     });
-    if let Some((bus, rounds)) = found {
-        figures.highest("most rounds to a row", rounds);
+    if let Some(Rounds { bus, count, .. }) = found {
+        figures.highest("most rounds to a row", count);
         if edges(&bus).next().is_some() {
             kinds.insert("a stream just in time by the row");
         }

@@ -8,7 +8,7 @@ use crate::admission::{delivery, last_try, least_cycles};
 use crate::sheet::Bus;
 use crate::Answer;
 
-const JUST_IN_TIME: &str = "just in time";
+pub(super) const JUST_IN_TIME: &str = "just in time";
 pub(super) const LATE_BY_ONE: &str = "late by one tick";
 
 /// Whether a stream is delivered just at its deadline or one tick after it,
@@ -41,6 +41,9 @@ pub(super) fn count_edges(figures: &mut Figures, sheet: &[u32], answer: Answer) 
             _ => "over 1",
         };
         figures.add(format!("stream {kind}, J {cycles}, budget {budget}"));
+        if bus.streams()[stream].jitter > 0 {
+            figures.add(format!("stream {kind}, J {cycles}, with jitter"));
+        }
         kinds.insert(format!("sheet with a stream {kind}"));
         if answer.number == 0 {
             kinds.insert(format!("sheet admitted with a stream {kind}"));

@@ -33,9 +33,9 @@ fn level(first: Stream, second: Stream) -> Option<&'static str> {
 fn nodes(sheet: &[u32]) -> Vec<Vec<Stream>> {
     let rows = sheet[3..].chunks_exact(3).take(sheet[0] as usize);
     rows.map(|row| {
-        let body = sheet[row[0] as usize..].chunks_exact(2);
-        let pairs = body.take(row[1] as usize).enumerate();
-        pairs.map(|(place, pair)| (pair[1], pair[0], place))
+        let body = sheet[row[0] as usize..].chunks_exact(3);
+        let streams = body.take(row[1] as usize).enumerate();
+        streams.map(|(place, words)| (words[1], words[0], place))
     })
     .map(Iterator::collect)
     .collect()

@@ -44,19 +44,18 @@ pub fn late_name(sheet: &[u32], node: u32, stream: u32) -> Option<&'static str> 
 }
 
 /// The periods of the streams above.
-fn above(bus: &Bus, stream: usize) -> impl Iterator<Item = u32> + '_ {
-    let node = &bus.nodes()[bus.node_of(stream)];
-    (node.first..node.first + node.count)
-        .filter(move |&other| bus.priority(other) < bus.priority(stream))
-        .map(|other| bus.streams()[other].period)
+fn periods_above(bus: &Bus, stream: usize) -> impl Iterator<Item = u32> + '_ {
+    let above = bus.above(stream);
+    above.map(|other| bus.streams()[other].period)
 }
 
 /// How the sum of C / period over the streams above compares with the budget.
-/// H at J × C − 1 is the sum of J × C / period, each rounded up. Hence no J
-/// serves if the sum is the budget or more, and a large one does if it is less.
+/// H at J × C − 1 is the sum of (J × C + jitter) / period, each rounded up. Hence
+/// no J serves if the sum is the budget or more, and a large one does if it is
+/// less, whatever the jitters.
 fn load(bus: &Bus, stream: usize) -> Ordering {
     let (mut over, mut under) = (Wide::from(0), Wide::from(1));
-    for period in above(bus, stream) {
+    for period in periods_above(bus, stream) {
         // over / under + C / period
         over = over.times(period).plus(under.times(bus.cycle() as u32));
         under = under.times(period);
@@ -107,7 +106,7 @@ impl Wide {
 /// Whether every C / period of the streams above is a binary fraction that
 /// ends after 34 places or before, so that none of such a sum is rounded.
 fn is_binary(bus: &Bus, stream: usize) -> bool {
-    above(bus, stream).all(|period| (bus.cycle() << 34).is_multiple_of(u64::from(period)))
+    periods_above(bus, stream).all(|period| (bus.cycle() << 34).is_multiple_of(u64::from(period)))
 }
 
 /// Counts the answer to a question: a J that was found, and in what sheets, or

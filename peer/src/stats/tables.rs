@@ -1,7 +1,7 @@
 //! How generated tables spread over the answers of the writer and their
 //! causes.
 
-use super::Figures;
+use super::{kinds_of_jitters, words_cause, Figures};
 use crate::generate::{tables_case, TablesCase};
 use crate::sheet::LAST_TICK;
 use crate::{write_sheet, Answer, Tables};
@@ -47,17 +47,25 @@ fn wrong(case: &TablesCase) -> [bool; 7] {
     let tables = &case.tables;
     let (nodes, streams) = (tables.counts.len(), sum(&tables.counts));
     let in_range = |words: &[u32], most: u32| words.iter().all(|&word| word >= 1 && word <= most);
-    let mut pairs = tables.periods.iter().zip(&tables.deadlines);
+    let mut deadlines = tables.periods.iter().zip(&tables.deadlines);
+    let mut jitters = tables.periods.iter().zip(&tables.jitters);
     [
         !(1..=16).contains(&nodes),
         !in_range(&[tables.message_ticks, tables.slot_ticks], 10_000),
         tables.budgets.len() != nodes,
         tables.counts.iter().any(|&count| count > 16) || !in_range(&tables.budgets, 16),
-        tables.periods.len() != streams || tables.deadlines.len() != streams,
+        wrong_lengths(tables).contains(&true),
         !in_range(&tables.periods, LAST_TICK)
-            || pairs.any(|(&period, &deadline)| deadline < 1 || deadline > period),
-        case.room.len() < 3 + 3 * nodes + 2 * streams,
+            || deadlines.any(|(&period, &deadline)| deadline < 1 || deadline > period)
+            || jitters.any(|(&period, &jitter)| jitter >= period),
+        case.room.len() < 3 + 3 * nodes + 3 * streams,
     ]
+}
+
+/// Whether the periods, the deadlines and the jitters are too few or too many.
+fn wrong_lengths(tables: &Tables) -> [bool; 3] {
+    let streams = sum(&tables.counts);
+    [&tables.periods, &tables.deadlines, &tables.jitters].map(|table| table.len() != streams)
 }
 
 /// The first stage that is wrong with each later one that is wrong too.
@@ -82,10 +90,6 @@ fn low(word: u32) -> &'static str {
 fn cause(case: &TablesCase, answer: Answer) -> String {
     let tables = &case.tables;
     let (nodes, streams) = (tables.counts.len(), sum(&tables.counts));
-    let wrong_lengths = (
-        tables.periods.len() != streams,
-        tables.deadlines.len() != streams,
-    );
     match answer.number {
         2 => low(nodes as u32).to_string(),
         3 => match (tables.message_ticks, tables.slot_ticks) {
@@ -96,14 +100,15 @@ fn cause(case: &TablesCase, answer: Answer) -> String {
         4 if answer.second > 0 => row_cause(tables, answer.second as usize - 1),
         4 if tables.budgets.len() < nodes => "too few budgets".to_string(),
         4 if tables.budgets.len() > nodes => "too many budgets".to_string(),
-        4 => match wrong_lengths {
-            (true, false) => "number of periods",
-            (false, true) => "number of deadlines",
-            _ => "number of both",
+        4 => match wrong_lengths(tables) {
+            [true, false, false] => "number of periods",
+            [false, true, false] => "number of deadlines",
+            [false, false, true] => "number of jitters",
+            _ => "number of several",
         }
         .to_string(),
-        5 => stream_cause(tables, answer),
-        _ => match 3 + 3 * nodes + 2 * streams - case.room.len() {
+        5 => tables_fault(tables, answer.second, answer.third).to_string(),
+        _ => match 3 + 3 * nodes + 3 * streams - case.room.len() {
             1 => "by one word".to_string(),
             _ => "by more".to_string(),
         },
@@ -124,16 +129,15 @@ fn row_cause(tables: &Tables, node: usize) -> String {
     }
 }
 
-fn stream_cause(tables: &Tables, answer: Answer) -> String {
-    let node = answer.second as usize - 1;
-    let stream = sum(&tables.counts[..node]) + answer.third as usize - 1;
-    match (tables.periods[stream], tables.deadlines[stream]) {
-        (0, _) => "period low",
-        (period, _) if period > LAST_TICK => "period high",
-        (_, 0) => "deadline low",
-        _ => "deadline above period",
-    }
-    .to_string()
+/// Which word of a stream of tables is wrong, given its place in refusal 5.
+pub fn tables_fault(tables: &Tables, node: u32, stream: u32) -> &'static str {
+    let before = sum(&tables.counts[..node as usize - 1]);
+    let stream = before + stream as usize - 1;
+    words_cause(
+        tables.periods[stream],
+        tables.deadlines[stream],
+        tables.jitters[stream],
+    )
 }
 
 fn count_sheet(figures: &mut Figures, case: &TablesCase) {
@@ -151,7 +155,7 @@ fn count_sheet(figures: &mut Figures, case: &TablesCase) {
             figures.add(format!("write 0, {length} streams"));
         }
     }
-    figures.add(match case.room.len() - (3 + 3 * nodes + 2 * streams) {
+    figures.add(match case.room.len() - (3 + 3 * nodes + 3 * streams) {
         0 => "write 0, room exact".to_string(),
         _ => "write 0, room longer".to_string(),
     });
@@ -166,5 +170,8 @@ fn count_sheet(figures: &mut Figures, case: &TablesCase) {
                 figures.add(format!("write 0, {name} {end}"));
             }
         }
+    }
+    for name in kinds_of_jitters(tables) {
+        figures.add(format!("write 0, {name}"));
     }
 }

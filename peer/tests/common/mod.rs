@@ -10,9 +10,9 @@ use peer::{admit, find_budgets, one_stream, replay, write_sheet, Answer, Tables}
 pub const NOT_BEGUN: u32 = peer::NOT_BEGUN;
 
 /// Sheet A of document 01: a cycle of 17 ticks.
-pub const SHEET_A: [u32; 15] = [2, 5, 1, 9, 2, 1, 13, 1, 2, 40, 40, 60, 60, 30, 30];
+pub const SHEET_A: [u32; 18] = [2, 5, 1, 9, 2, 1, 15, 1, 2, 40, 40, 0, 60, 60, 0, 30, 30, 0];
 /// The sheet of P7.
-pub const SHEET_P7: [u32; 10] = [1, 5, 1, 6, 2, 1, 10, 10, 100, 100];
+pub const SHEET_P7: [u32; 12] = [1, 5, 1, 6, 2, 1, 10, 10, 0, 100, 100, 0];
 
 /// P7 with 11 11 first: a cycle of 6 ticks, and the first just in time.
 pub fn p7_just_in_time() -> Vec<u32> {
@@ -43,31 +43,61 @@ pub fn with(words: &[u32], changes: &[(usize, u32)]) -> Vec<u32> {
     words
 }
 
-/// Builds a valid layout from budgets and streams.
+/// Builds a valid layout from budgets and streams without jitter: period and
+/// deadline of each.
 pub fn sheet(message: u32, slot: u32, nodes: &[(u32, &[(u32, u32)])]) -> Vec<u32> {
+    let steady = |streams: &[(u32, u32)]| -> Vec<[u32; 3]> {
+        let streams = streams.iter();
+        streams
+            .map(|&(period, deadline)| [period, deadline, 0])
+            .collect()
+    };
+    let nodes: Vec<_> = nodes.iter().map(|node| (node.0, steady(node.1))).collect();
+    let nodes: Vec<_> = nodes.iter().map(|node| (node.0, &node.1[..])).collect();
+    jittery_sheet(message, slot, &nodes)
+}
+
+/// The same with period, deadline and jitter of each stream.
+pub fn jittery_sheet(message: u32, slot: u32, nodes: &[(u32, &[[u32; 3]])]) -> Vec<u32> {
     let mut words = vec![nodes.len() as u32, message, slot];
     let mut place = 3 + 3 * nodes.len() as u32;
     for (budget, streams) in nodes {
         words.extend([place, streams.len() as u32, *budget]);
-        place += 2 * streams.len() as u32;
+        place += 3 * streams.len() as u32;
     }
     for (_, streams) in nodes {
-        for &(period, deadline) in *streams {
-            words.extend([period, deadline]);
-        }
+        words.extend(streams.iter().flatten());
     }
     words
 }
 
-/// Period and deadline of each stream of each node of a valid sheet.
-pub fn bodies(sheet: &[u32]) -> Vec<Vec<(u32, u32)>> {
+/// Period, deadline and jitter of each stream of each node of a valid sheet.
+pub fn bodies(sheet: &[u32]) -> Vec<Vec<[u32; 3]>> {
     let rows = sheet[3..].chunks_exact(3).take(sheet[0] as usize);
     rows.map(|row| {
-        let body = sheet[row[0] as usize..].chunks_exact(2);
-        let pairs = body.take(row[1] as usize);
-        pairs.map(|pair| (pair[0], pair[1])).collect()
+        let body = sheet[row[0] as usize..].chunks_exact(3);
+        let streams = body.take(row[1] as usize);
+        streams
+            .map(|words| [words[0], words[1], words[2]])
+            .collect()
     })
     .collect()
+}
+
+/// A stream, taken apart in the plainest way.
+#[derive(Clone, Copy)]
+pub struct Stream {
+    pub period: u64,
+    pub deadline: u64,
+    pub jitter: u64,
+}
+
+/// The sum H by the words of document 01 and request Six, over these streams.
+pub fn releases(above: &[Stream], window: u64) -> u64 {
+    let counts = above
+        .iter()
+        .map(|stream| 1 + (window + stream.jitter) / stream.period);
+    counts.sum()
 }
 
 /// A valid sheet, taken apart in the plainest way.
@@ -75,8 +105,8 @@ pub struct Plain {
     pub message: u64,
     pub slot: u64,
     pub cycle: u64,
-    /// Budget and streams of each node; period and deadline of a stream.
-    pub nodes: Vec<(u64, Vec<(u64, u64)>)>,
+    /// Budget and streams of each node.
+    pub nodes: Vec<(u64, Vec<Stream>)>,
 }
 
 pub fn plain(sheet: &[u32]) -> Plain {
@@ -86,8 +116,12 @@ pub fn plain(sheet: &[u32]) -> Plain {
         let row = 3 + 3 * node;
         let body = sheet[row] as usize;
         let count = sheet[row + 1] as usize;
-        let pair = |stream: usize| (word(body + 2 * stream), word(body + 2 * stream + 1));
-        nodes.push((word(row + 2), (0..count).map(pair).collect::<Vec<_>>()));
+        let stream = |number: usize| Stream {
+            period: word(body + 3 * number),
+            deadline: word(body + 3 * number + 1),
+            jitter: word(body + 3 * number + 2),
+        };
+        nodes.push((word(row + 2), (0..count).map(stream).collect::<Vec<_>>()));
     }
     let budgets: u64 = nodes.iter().map(|node| node.0).sum();
     Plain {
@@ -100,16 +134,21 @@ pub fn plain(sheet: &[u32]) -> Plain {
 
 /// The rank by the words of the request: shorter deadline first, then shorter
 /// period, then lower stream number. Numbers are those in the node, from 0.
-pub fn ranks_above(streams: &[(u64, u64)], one: usize, other: usize) -> bool {
-    let (period, deadline) = streams[one];
-    let (other_period, other_deadline) = streams[other];
-    if deadline != other_deadline {
-        return deadline < other_deadline;
+pub fn ranks_above(streams: &[Stream], one: usize, other: usize) -> bool {
+    let (first, second) = (streams[one], streams[other]);
+    if first.deadline != second.deadline {
+        return first.deadline < second.deadline;
     }
-    if period != other_period {
-        return period < other_period;
+    if first.period != second.period {
+        return first.period < second.period;
     }
     one < other
+}
+
+/// The streams of a node above one of them.
+pub fn streams_above(streams: &[Stream], stream: usize) -> Vec<Stream> {
+    let others = (0..streams.len()).filter(|&other| ranks_above(streams, other, stream));
+    others.map(|other| streams[other]).collect()
 }
 
 /// Admits into a room with two words to spare; those two must stay.
@@ -187,6 +226,7 @@ pub fn tables_a() -> Tables {
         budgets: vec![1, 2],
         periods: vec![40, 60, 30],
         deadlines: vec![40, 60, 30],
+        jitters: vec![0; 3],
     }
 }
 
@@ -198,7 +238,7 @@ pub fn tables_a_but(change: impl FnOnce(&mut Tables)) -> Tables {
 
 /// Writes into a room with two words to spare; those two must stay.
 pub fn written(tables: &Tables) -> (Answer, Vec<u32>) {
-    let words = 3 + 3 * tables.counts.len() + 2 * tables.periods.len();
+    let words = 3 + 3 * tables.counts.len() + 3 * tables.periods.len();
     let mut room = vec![OLD; words + 2];
     let given = write_sheet(tables, &mut room);
     assert_eq!(room[words..], [OLD, OLD], "words past the sheet");

@@ -4,10 +4,11 @@ use Prim.Native.Nat.{ℕ, zero, suc, _+_, _-_, _*_, _≤_, _<_}
 use native.Mathlib.Nat.{le-refl, le-step, eq-or-lt-of-le}
 use native.Mathlib.Decide.{decLt}
 use native.Mathlib.Omega.{arith}
-use mathlib.Core.Path.{_≡_, refl, sym, _∙_, subst₂}
+use mathlib.Core.Path.{_≡_, refl, sym, ap, _∙_, subst₂}
 use mathlib.Core.Logic.{_↔_, ⊎-elim, by-cases}
 use mathlib.Core.Bool.{Bool, true, false, true≢false}
 use borrow.Author.Tests.{lt-ltb, le-ltb}
+use Rattle.model.specs.declared.Stream.{Stream}
 use Rattle.model.specs.declared.Timing.{Timing}
 use Rattle.model.specs.declared.Verdict.{Verdict}
 use Rattle.model.specs.declared.Verdict.the-variants.{Late, Listed}
@@ -15,9 +16,9 @@ use Rattle.model.specs.Analysis.{Suffices, IsLeastJ, waitFor, lateAt, Ha
 use Rattle.model.proofs.Analysis.Wait.{below-least, in-time-worth}
 
 -- A verdict is the literal one: it lists exactly a wait that the stream has, and is late exactly where the stream is.
-pub record Exact (H : ℕ → ℕ) (t : Timing) (deadline : ℕ) (v : Verdict) : Type 0 where
-  pub listed : (w J : ℕ) → (v ≡ Listed w J) ↔ HasWait H t deadline J w
-  pub late : (v ≡ Late) ↔ IsLate H t deadline
+pub record Exact (H : ℕ → ℕ) (t : Timing) (x : Stream) (v : Verdict) : Type 0 where
+  pub listed : (w J : ℕ) → (v ≡ Listed w J) ↔ HasWait H t x J w
+  pub late : (v ≡ Late) ↔ IsLate H t x
 
 -- A verdict is not both.
 late-not-listed : {v : Verdict} {w J : ℕ} → v ≡ Late → v ≡ Listed w J → ⊥
@@ -106,53 +107,53 @@ module _ (H : ℕ → ℕ) (t : Timing) where
       (λ later. passed-late tries (suc from) (sym (search-on tries from short) ∙ e) i later (omega arith) enough)
       (eq-or-lt-of-le low))
 
-module _ (H : ℕ → ℕ) (t : Timing) (deadline : ℕ) (positive : 0 < t .cycle) where
+module _ (H : ℕ → ℕ) (t : Timing) (x : Stream) (positive : 0 < t .cycle) where
   -- The verdict lists the wait that the stream has: a J in time is tried.
-  has-verdict : {J w : ℕ} → HasWait H t deadline J w → verdict H t deadline ≡ Listed w J
+  has-verdict : {J w : ℕ} → HasWait H t x J w → verdict H t x ≡ Listed w J
   unfolding verdict
   has-verdict {J} {w} h =
       let same = h .wait in
       let one = h .least .fromOne in
-      let reached : J ≤ triesWorth t deadline = in-time-worth t deadline J positive one .0 (h .inTime) in
-      listed-from H t (h .least) (triesWorth t deadline) 1 one (omega arith) ∙ rw (← same)
+      let reached : J ≤ triesWorth t x = in-time-worth t x J positive one .0 (h .inTime) in
+      listed-from H t (h .least) (triesWorth t x) 1 one (omega arith) ∙ ap (λ n. Listed n J) (sym same)
 
   -- It lists no other: each J that is tried is in time.
-  verdict-has : {J w : ℕ} → verdict H t deadline ≡ Listed w J → HasWait H t deadline J w
+  verdict-has : {J w : ℕ} → verdict H t x ≡ Listed w J → HasWait H t x J w
   unfolding verdict
   verdict-has {J} e =
-      let f = from-listed H t (triesWorth t deadline) (triesWorth t deadline) 1 (omega arith) (le-refl 1) (λ i first enough. first) e in
+      let f = from-listed H t (triesWorth t x) (triesWorth t x) 1 (omega arith) (le-refl 1) (λ i first enough. first) e in
       record {
         least = f .least;
         wait = f .wait;
-        inTime = in-time-worth t deadline J positive (f .least .fromOne) .1 (f .tried);
+        inTime = in-time-worth t x J positive (f .least .fromOne) .1 (f .tried);
       }
 
   -- Where it is late, the stream is late.
-  verdict-is-late : verdict H t deadline ≡ Late → IsLate H t deadline
-  verdict-is-late e J least = go (lateAt t deadline J) refl
+  verdict-is-late : verdict H t x ≡ Late → IsLate H t x
+  verdict-is-late e J least = go (lateAt t x J) refl
     where
-      go : (b : Bool) → lateAt t deadline J ≡ b → b ≡ true
+      go : (b : Bool) → lateAt t x J ≡ b → b ≡ true
       go true late = refl
       go false early = absurd (late-not-listed e (has-verdict (record { least = least; wait = refl; inTime = early })))
 
   -- Where the stream is late, so is the verdict.
-  late-verdict : IsLate H t deadline → verdict H t deadline ≡ Late
-  late-verdict late = go (verdict H t deadline) refl
+  late-verdict : IsLate H t x → verdict H t x ≡ Late
+  late-verdict late = go (verdict H t x) refl
     where
-      go : (v : Verdict) → verdict H t deadline ≡ v → verdict H t deadline ≡ Late
+      go : (v : Verdict) → verdict H t x ≡ v → verdict H t x ≡ Late
       go Late e = e
       go (Listed w J) e = let h = verdict-has e in absurd (true≢false (sym (late J (h .least)) ∙ h .inTime))
 
   -- The verdict is the literal one.
-  pub verdict-exact : Exact H t deadline (verdict H t deadline)
+  pub verdict-exact : Exact H t x (verdict H t x)
   verdict-exact = record { listed = λ w J. (verdict-has, has-verdict); late = (verdict-is-late, late-verdict) }
 
 -- Where the verdict is late, nothing suffices that is worth a try.
-pub late-passed : (H : ℕ → ℕ) (t : Timing) (deadline i : ℕ)
-    → verdict H t deadline ≡ Late
+pub late-passed : (H : ℕ → ℕ) (t : Timing) (x : Stream) (i : ℕ)
+    → verdict H t x ≡ Late
     → 1 ≤ i
-    → i ≤ triesWorth t deadline
+    → i ≤ triesWorth t x
     → Suffices H t i
     → ⊥
 unfolding verdict
-late-passed H t deadline i e one few = passed-late H t (triesWorth t deadline) 1 e i one (omega arith)
+late-passed H t x i e one few = passed-late H t (triesWorth t x) 1 e i one (omega arith)

@@ -8,6 +8,7 @@ use mathlib.Core.Path.{_≡_}
 use mathlib.Core.Logic.{_↔_}
 use mathlib.Core.Bool.{false}
 use borrow.Author.Tests.{ltb-false, le-ltb}
+use Rattle.model.specs.declared.Stream.{Stream}
 use Rattle.model.specs.declared.Timing.{Timing}
 use Rattle.model.specs.Analysis.{Suffices, IsLeastJ, longestTurn, deliveredAfter, lateAt, triesWorth}
 
@@ -28,29 +29,29 @@ module _ {H : ℕ → ℕ} {t : Timing} where
       let fewer : pred J * t .cycle ≤ J * t .cycle = mul-le-mul-right (t .cycle) (pred-le J) in
       omega (arith, grows (pred J * t .cycle - 1) (J * t .cycle - 1) (omega arith))
 
-module _ (t : Timing) (deadline J : ℕ) where
-  -- With a J in time the latest delivery is within the deadline,
-  pub in-time-delivered : lateAt t deadline J ≡ false → deliveredAfter t J ≤ deadline
+module _ (t : Timing) (x : Stream) (J : ℕ) where
+  -- With a J in time the latest delivery, after the latest queuing, is within the deadline,
+  pub in-time-delivered : lateAt t x J ≡ false → x .jitter + deliveredAfter t J ≤ x .deadline
   unfolding lateAt
-  in-time-delivered early = ltb-false deadline (deliveredAfter t J) early
+  in-time-delivered early = ltb-false (x .deadline) (x .jitter + deliveredAfter t J) early
 
   -- and so are the J cycles, as a turn takes some time.
-  pub in-time-cycles : 1 ≤ longestTurn t → lateAt t deadline J ≡ false → J * t .cycle ≤ deadline
+  pub in-time-cycles : 1 ≤ longestTurn t → lateAt t x J ≡ false → x .jitter + J * t .cycle ≤ x .deadline
   in-time-cycles some early = omega (arith, in-time-delivered early)
 
   -- The J from 1 up that are in time are those worth a try.
-  pub in-time-worth : 0 < t .cycle → 1 ≤ J → (lateAt t deadline J ≡ false) ↔ (J ≤ triesWorth t deadline)
+  pub in-time-worth : 0 < t .cycle → 1 ≤ J → (lateAt t x J ≡ false) ↔ (J ≤ triesWorth t x)
   unfolding lateAt
   in-time-worth positive one =
       let some : 1 ≤ J * t .cycle = one-le-mul one positive in
       let worth = le-div-iff-mul-le positive in (
         λ early. worth .1 (omega (arith, in-time-delivered early)),
-        λ few. le-ltb deadline (deliveredAfter t J) (omega (arith, worth .0 few)),
+        λ few. le-ltb (x .deadline) (x .jitter + deliveredAfter t J) (omega (arith, worth .0 few)),
       )
 
 -- Cycles that are worth a try are within the deadline.
-pub tries-cycles : (t : Timing) (deadline J : ℕ)
+pub tries-cycles : (t : Timing) (x : Stream) (J : ℕ)
     → 0 < t .cycle
-    → J ≤ triesWorth t deadline
-    → J * t .cycle ≤ deadline + 1
-tries-cycles t deadline J positive few = omega (arith, le-div-iff-mul-le positive .0 few)
+    → J ≤ triesWorth t x
+    → J * t .cycle ≤ x .deadline + 1
+tries-cycles t x J positive few = omega (arith, le-div-iff-mul-le positive .0 few)

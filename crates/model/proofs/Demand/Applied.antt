@@ -14,10 +14,11 @@ use Rattle.model.specs.Limits.{notBegun}
 use Rattle.model.specs.Refusal.{refuseIf, _orElse_, firstOf, outside}
 use Rattle.model.specs.Sheet.{word, cycle, OnSheet, ticksOutside, countsOutside, timesOutside, rowWrong, rowRefusal, streamRefusal, bodyRefusal, headerRefusal, sheetRefusal}
 use Rattle.model.specs.Analysis.{streamOf, streamsFrom, outranks, above, mostReleases, interference, waitFor, search, verdict, higherStreams, verdictWith}
-use Rattle.model.specs.Protocol.{KeepsPeriod, ofNode, queuedBefore, waiting, beginsFrom, serve, nextNode, nextBus, turn, start, stateAt, startOf, nodeOf, TurnsBefore, run, replayed}
+use Rattle.model.specs.Protocol.{releaseTick, KeepsPeriod, ofNode, queuedBefore, waiting, beginsFrom, serve, nextNode, nextBus, turn, start, stateAt, startOf, nodeOf, TurnsBefore, run, replayed}
 use Rattle.model.specs.Answers.{roomRefusal, tickBefore, releaseRefusal, logRefusal, horizonRefusal, unknownRefusal, verdictAnswer, lateRefusal, nodeLateWith, waitWord, bufferAfter, oneStreamAnswer, admitAnswer, admitBuffer, replayAnswer, stepped}
 use Rattle.model.specs.Demand.{StreamWait, StreamLate, AllJudged, messagesOf, BeginsWithin, DeliveredBy, NextTurn, PeriodsKept, Premises, DueBefore, WholeReplay}
 use Rattle.model.specs.Bench.{sheetA, crowdedBy, logCrowded, logPeriodic}
+use Rattle.model.proofs.Protocol.Events.{PeriodApart, apart-fit, apart-kept, kept-apart}
 use Rattle.model.proofs.Protocol.Run.{turns-unique}
 use Rattle.model.proofs.Answers.Stepping.{inFront, stepping}
 use Rattle.model.proofs.Demand.Demand2.{demand2}
@@ -55,13 +56,27 @@ only-first (suc (suc zero)) on e = absurd (false≢true e)
 only-first (suc (suc (suc i))) on e = absurd (omega (arith, on .streamTo))
 
 -- In a crowded log one stream of node 1 releases once, so that it keeps its period whatever the others do.
-pub once : (p first second often j : ℕ) → j ≤ 2 → (often ≡ j → ⊥) → KeepsPeriod (sheetA p first second) (crowdedBy often j) 1 j
+once-apart : (p first second often j : ℕ) → j ≤ 2 → (often ≡ j → ⊥) → PeriodApart (sheetA p first second) (crowdedBy often j) 1 j
 unfolding sheetA crowdedBy sum upTo
-once p first second often j low other zero b s = absurd (other (omega (arith, s .first)))
-once p first second often j low other (suc zero) b s = absurd (other (omega (arith, s .first)))
-once p first second often j low other (suc (suc zero)) b s = absurd (omega (arith, s .first))
-once p first second often j low other (suc (suc (suc zero))) b s = absurd (omega (arith, s .first))
-once p first second often j low other (suc (suc (suc (suc a)))) b s = absurd (omega (arith, s .ordered, s .inLog))
+once-apart p first second often j low other zero b s = absurd (other (omega (arith, s .first)))
+once-apart p first second often j low other (suc zero) b s = absurd (other (omega (arith, s .first)))
+once-apart p first second often j low other (suc (suc zero)) b s = absurd (omega (arith, s .first))
+once-apart p first second often j low other (suc (suc (suc zero))) b s = absurd (omega (arith, s .first))
+once-apart p first second often j low other (suc (suc (suc (suc a)))) b s = absurd (omega (arith, s .ordered, s .inLog))
+
+pub once : (p first second often j : ℕ) → j ≤ 2 → (often ≡ j → ⊥) → KeepsPeriod (sheetA p first second) (crowdedBy often j) 1 j
+once p first second often j low other =
+    apart-kept (sheetA p first second) (crowdedBy often j) 1 j (once-apart p first second often j low other)
+
+-- The stream that releases twice at tick 0 does not keep it: without a jitter no events fit.
+pub broken : KeepsPeriod A logCrowded 1 2 → ⊥
+unfolding sheetA crowdedBy sum upTo
+broken kept =
+    omega (
+      arith,
+      kept-apart A logCrowded 1 2 refl kept 0 1
+          (record { ordered = omega arith; inLog = omega arith; first = refl; second = refl; noneBetween = λ i low high e. omega arith }),
+    )
 
 -- Between its first two turns node 1 has no other.
 next-turn : NextTurn A logCrowded 0 2
@@ -132,7 +147,7 @@ crowded-turns turns next words whole =
     (three, whole .nextStart ∙ ap (startOf A logCrowded) three)
 
 -- The periodic log: stream 1 releases at 0 and 40, its period apart, and stream 2 once.
-apart : KeepsPeriod A logPeriodic 1 1
+apart : PeriodApart A logPeriodic 1 1
 unfolding sheetA logPeriodic sum upTo
 apart zero b s = later b (s .ordered) (s .inLog) (s .second)
   where
@@ -148,7 +163,7 @@ apart (suc (suc zero)) b s = absurd (omega (arith, s .first))
 apart (suc (suc (suc zero))) b s = absurd (omega (arith, s .first))
 apart (suc (suc (suc (suc a)))) b s = absurd (omega (arith, s .ordered, s .inLog))
 
-once-second : KeepsPeriod A logPeriodic 1 2
+once-second : PeriodApart A logPeriodic 1 2
 unfolding sheetA logPeriodic sum upTo
 once-second zero b s = absurd (omega (arith, s .first))
 once-second (suc zero) b s = absurd (omega (arith, s .first))
@@ -171,7 +186,11 @@ second-premises =
     record {
       onSheet = on-node-1 40 40 60 2 (omega arith) (omega arith);
       listed = refl;
-      kept = record { itself = once-second; rankedAbove = λ i on e. rw (only-first i on e) apart };
+      kept =
+          record {
+            itself = apart-kept A logPeriodic 1 2 once-second;
+            rankedAbove = λ i on e. rw (only-first i on e) (apart-kept A logPeriodic 1 1 apart);
+          };
     }
 
 -- What demand 3 says of any words that the replay of the periodic log up to 57 wrote: of stream 2, whose J is 2, and of stream 1, whose
@@ -191,19 +210,21 @@ periodic turns next words whole =
           (record {
             onSheet = on-node-1 40 40 60 1 (omega arith) (omega arith);
             listed = refl;
-            kept = record { itself = apart; rankedAbove = λ i on e. absurd (highest 40 40 60 1 refl refl i on e) };
+            kept = record { itself = apart-kept A logPeriodic 1 1 apart; rankedAbove = λ i on e. absurd (highest 40 40 60 1 refl refl i on e) };
           })
           4
           (record { inLog = omega arith; ofStream = refl; inTime = omega arith });
     }
 
--- The promise of delivery where J is 2: its message, released at 1, is delivered by 61, its deadline, a tick before the horizon.
+-- The promise of delivery where J is 2: its message, whose event is its release at 1, is delivered by 61, its deadline, a tick before
+-- the horizon.
 pub second-delivered : (turns next : ℕ) (words : List ℕ)
     → WholeReplay A logPeriodic 62 turns next words
     → DeliveredBy A logPeriodic words 3 61
 unfolding sheetA logPeriodic sum upTo
 second-delivered turns next words whole =
-    whole .delivered 1 2 33 2 second-premises 3 (record { inLog = omega arith; ofStream = refl; inTime = omega arith })
+    whole .delivered 1 2 33 2 second-premises (releaseTick logPeriodic) (apart-fit A logPeriodic 1 2 once-second) 3 61
+    (record { inLog = omega arith; ofStream = refl; due = refl; inTime = omega arith })
 
 -- Demand 3 about these replays, with the numbers that they answer.
 pub crowded-replay : Crowded (0 ∷ notBegun ∷ 6 ∷ 11 ∷ 17 ∷ [])

@@ -1,6 +1,6 @@
 -- The streams of a message's class: the message and what its node queues before it are of the message's own stream or of one ranked
--- above it. So where those keep their least periods, there come of the class, in a window no longer than the period of the message's
--- own stream, at most the message itself and the interference of the streams above. Assumes nothing.
+-- above it. So where those keep their least periods, there come of the class, in a window that with the jitter of the message's own
+-- stream is no longer than its period, at most the message itself and the interference of the streams above. Assumes nothing.
 use Prim.Native.Nat.{ℕ, suc, _+_, _-_, _≤_, _<_}
 use mathlib.Core.Path.{_≡_, refl, _∙_}
 use mathlib.Core.Logic.{_⊎_, inl, inr, ⊎-elim, Dec·and}
@@ -15,9 +15,9 @@ use Rattle.theory.proofs.Arrivals.{Apart, successive-apart}
 use Rattle.theory.proofs.ClassArrivals.{came-sum}
 use Rattle.theory.proofs.Window.{InClass, came?, came}
 use Rattle.model.specs.declared.Stream.{Stream}
-use Rattle.model.specs.Sheet.{period, streamCount, streamsBefore, runningNumber, OnSheet}
+use Rattle.model.specs.Sheet.{period, jitter, streamCount, streamsBefore, runningNumber, OnSheet}
 use Rattle.model.specs.Analysis.{streamOf, streamsOf, outranks, mostReleases, interference, higherStreams}
-use Rattle.model.specs.Protocol.{releases, releaseTick, releaseStream, streamOfRelease, KeepsPeriod}
+use Rattle.model.specs.Protocol.{releases, releaseTick, releaseStream, streamOfRelease, EventsFit, KeepsPeriod}
 use Rattle.model.specs.Demand.{PeriodsKept}
 use Rattle.model.proofs.Sheet.ValidSheet.{SheetFits}
 use Rattle.model.proofs.Analysis.NodeStreams.{in-streams, from-streams, in-above, from-above}
@@ -33,17 +33,18 @@ OfStream s log k y i = releaseStream log i ≡ runningNumber s k (y .number)
 pub ofStream? : (s log : List ℕ) (k : ℕ) (y : Stream) (i : ℕ) → Dec (OfStream s log k y i)
 ofStream? s log k y i = ℕ-discrete (releaseStream log i) (runningNumber s k (y .number))
 
--- A stream that keeps its least period has any two of its releases a period apart.
-keeps-apart : (s log : List ℕ) (k j : ℕ)
-    → KeepsPeriod s log k j
-    → Apart (OfStream s log k (streamOf s k j)) (releaseTick log) (period s k j) (releases log)
-keeps-apart s log k j kept =
+-- Events that fit a stream's releases are any two a period apart.
+events-apart : (s log : List ℕ) (k j : ℕ) (latest : ℕ → ℕ)
+    → EventsFit s log k j latest
+    → Apart (OfStream s log k (streamOf s k j)) latest (period s k j) (releases log)
+events-apart s log k j latest fit =
     successive-apart
     (ofStream? s log k (streamOf s k j))
-    (releaseTick log)
+    latest
     (period s k j)
     (releases log)
-    (λ a b l h m n none. omega (arith, kept a b (record { ordered = l; inLog = h; first = m; second = n; noneBetween = none })))
+    (λ a b l h m n none.
+    omega (arith, fit .apart a b (record { ordered = l; inLog = h; first = m; second = n; noneBetween = none })))
 
 -- Stream j of node k and those above it.
 abbrev upToRank : List ℕ → ℕ → ℕ → List Stream
@@ -76,24 +77,44 @@ class-stream s log k j M turns from ofStream i (own, inr b) = go (before-reading
         )
     go (inr (same, l)) = (streamOf s k j, List·Memᴰ·head refl, same ∙ ofStream)
 
--- The releases of a stream are at least its period apart.
-abbrev PeriodApart : List ℕ → List ℕ → ℕ → Stream → Type 0
-PeriodApart s log k y = (1 ≤ y .period) × Apart (OfStream s log k y) (releaseTick log) (y .period) (releases log)
+-- The releases of a stream have events at least its period apart, and each is queued up to its jitter after its event.
+record EventsApart (s log : List ℕ) (k : ℕ) (y : Stream) : Type 0 where
+  some : 1 ≤ y .period
+  latest : ℕ → ℕ
+  apart : Apart (OfStream s log k y) latest (y .period) (releases log)
+  notAfter : (i : ℕ) → i < releases log → OfStream s log k y i → releaseTick log i ≤ latest i
+  notBefore : (i : ℕ) → i < releases log → OfStream s log k y i → latest i ≤ releaseTick log i + y .jitter
 
--- They are so of a stream whose period is kept, and of those above it.
+-- So it is with a stream that keeps its least period,
+kept-apart : {s log : List ℕ} {k j : ℕ}
+    → SheetFits s
+    → OnSheet s k j
+    → KeepsPeriod s log k j
+    → EventsApart s log k (streamOf s k j)
+kept-apart {s} {log} {k} {j} fits on (latest, fit) =
+    record {
+      some = fits .streams k j on .periodFrom;
+      latest = latest;
+      apart = events-apart s log k j latest fit;
+      -- by `omega`, so that a stronger premise would be enough here and fall at its use
+      notAfter = λ i h o. omega (arith, fit .notAfter i h o);
+      notBefore = λ i h o. omega (arith, fit .notBefore i h o);
+    }
+
+-- and so with a stream whose period is kept, and those above it.
 all-apart : {s log : List ℕ} {k j : ℕ}
     → SheetFits s
     → OnSheet s k j
     → PeriodsKept s log k j
     → (y : Stream)
     → List·Memᴰ y (upToRank s k j)
-    → PeriodApart s log k y
+    → EventsApart s log k y
 all-apart {s} {log} {k} {j} fits on kept y m = ⊎-elim itself higher (List·Memᴰ·cases-cons m)
   where
-    itself : y ≡ streamOf s k j → PeriodApart s log k y
-    itself e = rw e (fits .streams k j on .periodFrom, keeps-apart s log k j (kept .itself))
+    itself : y ≡ streamOf s k j → EventsApart s log k y
+    itself e = rw e (kept-apart fits on (kept .itself))
 
-    higher : List·Memᴰ y (higherStreams s k j) → PeriodApart s log k y
+    higher : List·Memᴰ y (higherStreams s k j) → EventsApart s log k y
     higher l =
         let a = from-above (streamOf s k j) y (streamsOf s k) l in
         let w = from-streams s k y 1 (streamCount s k) (a .0) in
@@ -103,11 +124,10 @@ all-apart {s} {log} {k} {j} fits on kept y m = ⊎-elim itself higher (List·Mem
           streamFrom = w .1;
           streamTo = omega (arith, w .2);
         } in
-        let period-kept : KeepsPeriod s log k (w .0) = kept .rankedAbove (w .0) there (rw (w .3) at (a .1)) in
-        rw (w .3) (fits .streams k (w .0) there .periodFrom, keeps-apart s log k (w .0) period-kept)
+        rw (w .3) (kept-apart fits there (kept .rankedAbove (w .0) there (rw (w .3) at (a .1))))
 
--- In w ticks, at most the stream's period, there come of the class of a message of it at most the message itself and the
--- interference of the streams above.
+-- In w ticks, with the stream's jitter at most its period, there come of the class of a message of it at most the message itself and
+-- the interference of the streams above.
 pub class-came : {s log : List ℕ} {k j : ℕ} (turns M : ℕ)
     → SheetFits s
     → OnSheet s k j
@@ -115,31 +135,32 @@ pub class-came : {s log : List ℕ} {k j : ℕ} (turns M : ℕ)
     → releaseStream log M ≡ runningNumber s k j
     → (lo w : ℕ)
     → 1 ≤ w
-    → w ≤ period s k j
+    → w + jitter s k j ≤ period s k j
     → came (lineOf s log k turns) M lo (lo + w) ≤ suc (interference (higherStreams s k j) (w - 1))
 unfolding interference sum
 class-came {s} {log} {k} {j} turns M fits on kept ofStream lo w one short =
-    let inside : w - 1 < period s k j = omega arith in
+    let inside : w - 1 + jitter s k j < period s k j = omega arith in
     omega (
       arith,
-      releases-once (period s k j) inside,
-      came-sum (lineOf s log k turns) M lo (lo + w) (ofStream? s log k) (λ y. mostReleases (y .period) (w - 1)) (upToRank s k j)
+      releases-once (period s k j) (jitter s k j) (w - 1) inside,
+      came-sum (lineOf s log k turns) M lo (lo + w) (ofStream? s log k) (λ y. mostReleases (y .period) (y .jitter) (w - 1)) (upToRank s k j)
           (λ i h. class-stream s log k j M turns (on .nodeFrom) ofStream i) most,
     )
   where
     most : (y : Stream)
         → List·Memᴰ y (upToRank s k j)
         → count (λ i. Dec·and (came? (lineOf s log k turns) M lo (lo + w) i) (ofStream? s log k y i)) (releases log)
-        ≤ mostReleases (y .period) (w - 1)
+        ≤ mostReleases (y .period) (y .jitter) (w - 1)
     most y m =
-        let apart = all-apart fits on kept y m in
+        let e = all-apart fits on kept y m in
         releases-most
         (λ i. Dec·and (came? (lineOf s log k turns) M lo (lo + w) i) (ofStream? s log k y i))
-        (releaseTick log)
+        (e .latest)
         (y .period)
+        (y .jitter)
         lo
         (w - 1)
         (releases log)
-        (apart .0)
-        (λ a b l h (c, o) (c', o'). apart .1 a b l h o o')
-        (λ i h ((c, f, u), o). (f, omega arith))
+        (e .some)
+        (λ a b l h (c, o) (c', o'). e .apart a b l h o o')
+        (λ i h ((c, f, u), o). (omega (arith, e .notAfter i h o), omega (arith, e .notBefore i h o)))

@@ -28,7 +28,8 @@ demand3 s log horizon accepts =
       withinBudget = λ i h. rw words (omega (arith, messages-most r i h));
       withinWait = λ k j wait cycles p i due. rw words (begins-within-wait r p i due);
       -- premise and bound by `omega`, so that a weaker promise would be met here and fall at its use
-      delivered = λ k j wait J p i due.
-          let d = delivered-in-time r p i (record { inLog = due .inLog; ofStream = due .ofStream; inTime = omega (arith, due .inTime) }) in
+      delivered = λ k j wait J p latest fit i tick due.
+          let early = fit .notBefore i (due .inLog) (due .ofStream) in
+          let d = delivered-in-time r p latest fit i tick (due .inLog) (due .ofStream) (omega (arith, due .due, early)) (omega (arith, due .inTime)) in
           rw words (record { turn = d .turn; begins = d .begins; over = omega (arith, d .over) });
     }

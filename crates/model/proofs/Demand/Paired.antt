@@ -10,10 +10,11 @@ use Rattle.theory.specs.Queue.{firstIn, first, firstOnes}
 use Rattle.model.specs.Refusal.{refuseIf, _orElse_, firstOf, outside}
 use Rattle.model.specs.Sheet.{word, cycle, OnSheet, ticksOutside, countsOutside, timesOutside, rowWrong, rowRefusal, streamRefusal, bodyRefusal, headerRefusal, sheetRefusal}
 use Rattle.model.specs.Analysis.{streamOf, streamsFrom, outranks, above, mostReleases, interference, waitFor, search, verdict, verdictWith}
-use Rattle.model.specs.Protocol.{KeepsPeriod, ofNode, queuedBefore, waiting, beginsFrom, serve, nextNode, nextBus, turn, start, stateAt, startOf, run, replayed}
+use Rattle.model.specs.Protocol.{releaseTick, ofNode, queuedBefore, waiting, beginsFrom, serve, nextNode, nextBus, turn, start, stateAt, startOf, run, replayed}
 use Rattle.model.specs.Answers.{roomRefusal, tickBefore, releaseRefusal, logRefusal, horizonRefusal, replayAnswer}
 use Rattle.model.specs.Demand.{DeliveredBy, Premises, WholeReplay}
 use Rattle.model.specs.Bench.{sheetPair, logPair}
+use Rattle.model.proofs.Protocol.Events.{PeriodApart, apart-fit, apart-kept}
 use Rattle.model.proofs.Demand.TurnMessages.{within-turn}
 use Rattle.model.proofs.Demand.Demand3.{demand3}
 
@@ -22,7 +23,7 @@ abbrev Pair : List ℕ
 Pair = sheetPair 27
 
 -- Node 2's first stream releases once, and none is ranked above it.
-once : KeepsPeriod Pair logPair 2 1
+once : PeriodApart Pair logPair 2 1
 unfolding sheetPair logPair sum upTo
 once zero b s = absurd (omega (arith, s .first))
 once (suc zero) b s = absurd (omega (arith, s .first))
@@ -44,7 +45,7 @@ premises =
     record {
       onSheet = record { nodeFrom = omega arith; nodeTo = omega arith; streamFrom = omega arith; streamTo = omega arith };
       listed = refl;
-      kept = record { itself = once; rankedAbove = λ i on e. absurd (none-above i on e) };
+      kept = record { itself = apart-kept Pair logPair 2 1 once; rankedAbove = λ i on e. absurd (none-above i on e) };
     }
 
 -- What is said of any words that the replay up to 35 wrote: the message, released at 7, has its begin tick in a turn that is over by
@@ -62,7 +63,8 @@ pub paired : (words : List ℕ) → WholeReplay Pair logPair 35 5 35 words → P
 unfolding sheetPair logPair sum upTo firstIn first firstOnes outranks ofNode queuedBefore waiting beginsFrom serve nextNode nextBus turn start stateAt
 paired words whole =
     let d : DeliveredBy Pair logPair words 5 34 =
-    whole .delivered 2 1 16 1 premises 5 (record { inLog = omega arith; ofStream = refl; inTime = omega arith })
+    whole .delivered 2 1 16 1 premises (releaseTick logPair) (apart-fit Pair logPair 2 1 once) 5 34
+    (record { inLog = omega arith; ofStream = refl; due = refl; inTime = omega arith })
     in
     let in-turn = within-turn Pair logPair words (d .turn) 5 .0 (d .begins) in
     record {

@@ -35,8 +35,8 @@ whole-same {s} {log} {horizon} {turns} {next} {words} {other} same whole =
           let begins = whole .withinWait k j wait cycles premises i due in
           let e = same i (due .inLog) in
           record { written = rw e (begins .written); notEarlier = rw e (begins .notEarlier); within = rw e (begins .within) };
-      delivered = λ k j wait J premises i due.
-          let d = whole .delivered k j wait J premises i due in
+      delivered = λ k j wait J premises latest fit i tick due.
+          let d = whole .delivered k j wait J premises latest fit i tick due in
           record { turn = d .turn; begins = begins-same (d .turn) i (due .inLog) ∙ d .begins; over = d .over };
     }
   where

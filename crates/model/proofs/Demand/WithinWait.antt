@@ -1,14 +1,14 @@
 -- Every message of a stream with a listed wait begins within that wait: the theorem about ranked nodes, on the line of its node, with
 -- turns at most a full cycle apart and the interference of the streams above. Assumes nothing.
-use Prim.Native.Nat.{ℕ, suc, _-_, _*_, _≤_, _<_}
+use Prim.Native.Nat.{ℕ, suc, _+_, _-_, _*_, _≤_, _<_}
 use mathlib.Core.Path.{_≡_}
 use mathlib.Core.Bool.{true}
 use mathlib.Core.List.{List}
 use native.Mathlib.Omega.{arith}
 use native.Mathlib.Nat.{le-refl, one-le-mul}
 use Rattle.model.specs.Limits.{notBegun}
-use Rattle.model.specs.Sheet.{word, messageTicks, streamCount, budget, period, deadline, cycle, runningNumber, OnSheet}
-use Rattle.model.specs.Analysis.{interference, waitFor, longestTurn, higherStreams, timingOf}
+use Rattle.model.specs.Sheet.{word, messageTicks, streamCount, budget, period, deadline, jitter, cycle, runningNumber, OnSheet}
+use Rattle.model.specs.Analysis.{streamOf, interference, waitFor, longestTurn, higherStreams, timingOf}
 use Rattle.model.specs.Protocol.{releases, releaseTick, releaseStream, ofNode, stateAt, startOf}
 use Rattle.model.specs.Demand.{StreamWait, PeriodsKept, Premises, BeginsWithin, DueBefore}
 use Rattle.model.proofs.Sheet.ValidSheet.{SheetFits}
@@ -29,18 +29,19 @@ own-message : {s : List ℕ} {k j : ℕ} (n : ℕ) → OnSheet s k j → n ≡ r
 own-message {s} {k} n on e =
     ofNode-reading s k n .1 (omega (arith, sumTo-split (streamCount s) k (on .nodeFrom), on .streamFrom, on .streamTo))
 
--- The cycles of a listed wait are within the stream's deadline. (Of a turn's ticks, either those of messages or the slot are enough.)
+-- The cycles of a listed wait are, with the stream's jitter, within its deadline. (Of a turn's ticks, either those of messages or the
+-- slot are enough.)
 pub cycles-within : {s : List ℕ} {k j J wait : ℕ}
     → SheetFits s
     → OnSheet s k j
     → StreamWait s k j J wait
-    → J * cycle s ≤ deadline s k j
+    → jitter s k j + J * cycle s ≤ deadline s k j
 cycles-within {s} {k} {j} {J} fits on listed =
     let messages = one-le-mul (fits .rows k (on .nodeFrom) (on .nodeTo) .budgetFrom) (fits .header .messageFrom) in
     let some : 1 ≤ longestTurn (timingOf s k) = omega (arith, messages, fits .header .slotFrom) in
-    in-time-cycles (timingOf s k) (deadline s k j) J some (listed .inTime)
+    in-time-cycles (timingOf s k) (streamOf s k j) J some (listed .inTime)
 
--- What the theorem about ranked nodes asks of a message. (J cycles are within the deadline, and so within the period.)
+-- What the theorem about ranked nodes asks of a message. (J cycles and the jitter are within the deadline, and so within the period.)
 ranked : {s log : List ℕ} {k j J wait M : ℕ} (turns : ℕ)
     → SheetFits s
     → OnSheet s k j
@@ -53,7 +54,7 @@ ranked {s} {log} {k} {j} {J} {M} turns fits on listed kept inLog ofStream =
     let one = listed .least .fromOne in
     let some : 1 ≤ J * cycle s = one-le-mul one (omega (arith, cycle-least s fits)) in
     let room : budget s k * messageTicks s ≤ cycle s = omega (arith, turn-in-cycle s k (on .nodeFrom) (on .nodeTo)) in
-    let short : J * cycle s ≤ period s k j = omega (arith, cycles-within fits on listed, fits .streams k j on .deadlineTo) in
+    let short : J * cycle s + jitter s k j ≤ period s k j = omega (arith, cycles-within fits on listed, fits .streams k j on .deadlineTo) in
     record {
       inLog = inLog;
       own = own-message (releaseStream log M) on ofStream;

@@ -1,4 +1,4 @@
--- Sums over the nodes of a valid sheet: streams up to a node, budgets, and the full cycle. Assumes nothing.
+-- Sums over the nodes of a valid sheet: streams up to a node and their words, budgets, and the full cycle. Assumes nothing.
 use Prim.Native.Nat.{ℕ, _+_, _*_, _≤_, _<_}
 use native.Mathlib.Nat.{mul-le-mul}
 use native.Mathlib.Numerals.{add-one}
@@ -6,9 +6,9 @@ use native.Mathlib.Omega.{arith}
 use mathlib.Core.Path.{_≡_}
 use mathlib.Core.List.{List}
 use lib.ListN.{length}
-use Rattle.theory.proofs.Sums.{sumTo-more, sumTo-room, sumTo-most, sumTo-least}
+use Rattle.theory.proofs.Sums.{sumTo-more, sumTo-split, sumTo-grows, sumTo-room, sumTo-most, sumTo-least}
 use Rattle.model.specs.Limits.{maxNodes, maxStreams, maxBudget, maxSlotTicks, streamWords, longestSheet}
-use Rattle.model.specs.Sheet.{nodes, streamCount, budget, streamsUpTo, totalStreams, budgetsUpTo, cycleTicks, cycle, contentsWords, bodyPlace}
+use Rattle.model.specs.Sheet.{nodes, place, streamCount, budget, streamsUpTo, totalStreams, budgetsUpTo, cycleTicks, cycle, contentsWords, bodyPlace}
 use Rattle.model.proofs.Sheet.ValidSheet.{SheetFits}
 
 -- "C" at least: a message and a slot.
@@ -69,3 +69,14 @@ body-next s i e = rw (add-one i) e
 -- and they are not more than all.
 pub streams-room : (s : List ℕ) (i : ℕ) → i < nodes s → streamsUpTo s i + streamCount s (i + 1) ≤ totalStreams s
 streams-room s i inside = sumTo-room (streamCount s) i (nodes s) inside
+
+-- The words of a node's body are all there.
+pub body-whole : {s : List ℕ} {k : ℕ} → SheetFits s → 1 ≤ k → k ≤ nodes s → place s k + streamWords * streamCount s k ≤ length s
+body-whole {s} {k} fits low high =
+    omega (
+      arith,
+      fits .rows k low high .placed,
+      fits .whole,
+      sumTo-split (streamCount s) k low,
+      sumTo-grows (streamCount s) k (nodes s) high,
+    )

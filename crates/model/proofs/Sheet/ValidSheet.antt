@@ -4,12 +4,12 @@ use native.Mathlib.Omega.{arith}
 use mathlib.Core.Path.{_≡_, ap}
 use mathlib.Core.Bool.{false, _||_, not}
 use mathlib.Core.List.{List}
-use borrow.Author.Tests.{ltb-false, eqb-true, not-false, le-ltb, eq-eqb}
+use borrow.Author.Tests.{ltb-false, leb-false, eqb-true, not-false, le-ltb, lt-leb, eq-eqb}
 use lib.ListN.{length}
 use lib.Dec.{ltb, eqb}
 use Rattle.model.specs.Limits.{headerWords, maxNodes, maxStreams, maxBudget, maxSlotTicks, maxTime}
 use Rattle.model.specs.Refusal.{refuse, refuseIf, firstOf, outside}
-use Rattle.model.specs.Sheet.{nodes, messageTicks, slotTicks, place, streamCount, budget, contentsWords, bodyPlace, sheetLength, period, deadline, OnSheet, ticksOutside, countsOutside, timesOutside, rowWrong, rowRefusal, streamRefusal, bodyRefusal, headerRefusal, sheetRefusal, Valid}
+use Rattle.model.specs.Sheet.{nodes, messageTicks, slotTicks, place, streamCount, budget, contentsWords, bodyPlace, sheetLength, period, deadline, jitter, OnSheet, ticksOutside, countsOutside, timesOutside, rowWrong, rowRefusal, streamRefusal, bodyRefusal, headerRefusal, sheetRefusal, Valid}
 use Rattle.model.proofs.Sheet.Refusals.{orElse-both, orElse-none, refuseIf-none, refuseIf-passes, first-none, first-all}
 use Rattle.theory.proofs.Tests.{or-neither, or-second}
 use Rattle.model.proofs.Sheet.Range.{within, inside}
@@ -32,12 +32,13 @@ pub record RowFits (s : List ℕ) (k : ℕ) : Type 0 where
   pub budgetFrom : 1 ≤ budget s k
   pub budgetTo : budget s k ≤ maxBudget
 
--- Stream j of node k: its period and its deadline are in range.
+-- Stream j of node k: its period, its deadline and its jitter are in range.
 pub record StreamFits (s : List ℕ) (k j : ℕ) : Type 0 where
   pub periodFrom : 1 ≤ period s k j
   pub periodTo : period s k j ≤ maxTime
   pub deadlineFrom : 1 ≤ deadline s k j
   pub deadlineTo : deadline s k j ≤ period s k j
+  pub jitterBelow : jitter s k j < period s k j
 
 -- The whole sheet.
 pub record SheetFits (s : List ℕ) : Type 0 where
@@ -83,25 +84,27 @@ pub counts-inside : {count budget : ℕ} → count ≤ maxStreams → 1 ≤ budg
 unfolding countsOutside
 counts-inside a b c = or-second (le-ltb _ _ a) (inside 1 maxBudget _ b c)
 
--- and a stream's period and deadline.
-pub times-within : {period deadline : ℕ}
-    → timesOutside period deadline ≡ false
-    → (1 ≤ period) × (period ≤ maxTime) × (1 ≤ deadline) × (deadline ≤ period)
+-- and a stream's period, deadline and jitter.
+pub times-within : {period deadline jitter : ℕ}
+    → timesOutside period deadline jitter ≡ false
+    → (1 ≤ period) × (period ≤ maxTime) × (1 ≤ deadline) × (deadline ≤ period) × (jitter < period)
 unfolding timesOutside
-times-within e =
-    let both = or-neither _ _ e in
+times-within {period} {deadline} {jitter} e =
+    let all = or-neither _ _ e in
+    let both = or-neither _ _ (all .0) in
     let ranged = within 1 maxTime _ (both .0) in
     let due = within 1 _ _ (both .1) in
-    (ranged .0, ranged .1, due .0, due .1)
+    (ranged .0, ranged .1, due .0, due .1, leb-false period jitter (all .1))
 
-pub times-inside : {period deadline : ℕ}
+pub times-inside : {period deadline jitter : ℕ}
     → 1 ≤ period
     → period ≤ maxTime
     → 1 ≤ deadline
     → deadline ≤ period
-    → timesOutside period deadline ≡ false
+    → jitter < period
+    → timesOutside period deadline jitter ≡ false
 unfolding timesOutside
-times-inside a b c d = or-second (inside 1 maxTime _ a b) (inside 1 _ _ c d)
+times-inside a b c d e = or-second (or-second (inside 1 maxTime _ a b) (inside 1 _ _ c d)) (lt-leb _ _ e)
 
 pub header-fits : (s : List ℕ) → headerRefusal s .number ≡ 0 → HeaderFits s
 unfolding headerRefusal
@@ -142,8 +145,8 @@ row-fits s k e =
 pub stream-fits : (s : List ℕ) (k j : ℕ) → streamRefusal s k j .number ≡ 0 → StreamFits s k j
 unfolding streamRefusal
 stream-fits s k j e =
-    let times = times-within (refuseIf-none (timesOutside (period s k j) (deadline s k j)) (refuse 5 k j) (refuses 4 k j) e) in
-    record { periodFrom = times .0; periodTo = times .1; deadlineFrom = times .2; deadlineTo = times .3 }
+    let times = times-within (refuseIf-none (timesOutside (period s k j) (deadline s k j) (jitter s k j)) (refuse 5 k j) (refuses 4 k j) e) in
+    record { periodFrom = times .0; periodTo = times .1; deadlineFrom = times .2; deadlineTo = times .3; jitterBelow = times .4 }
 
 pub valid-fits : (s : List ℕ) → Valid s → SheetFits s
 unfolding sheetRefusal bodyRefusal
@@ -190,4 +193,4 @@ fits-valid s fits =
     stream k low high j from to =
         let on : OnSheet s k j = record { nodeFrom = low; nodeTo = omega arith; streamFrom = from; streamTo = omega arith } in
         let f = fits .streams k j on in
-        refuseIf-passes _ (times-inside (f .periodFrom) (f .periodTo) (f .deadlineFrom) (f .deadlineTo))
+        refuseIf-passes _ (times-inside (f .periodFrom) (f .periodTo) (f .deadlineFrom) (f .deadlineTo) (f .jitterBelow))

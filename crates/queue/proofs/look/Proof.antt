@@ -39,7 +39,7 @@ look-at-requires c κs =
     let l = c .before .before .loop in
     let streams = c .before .before .before .streams-of .ensures in
     let most = ap (λ r. r .budget) streams in (
-      (streams ∙ sym (ap (λ k. streamsAs (c .before .before .before .before .before .before .before .before .args .sheet .now) k) (ap (λ r. r .node) streams)), omega (arith, c .before .loop-test .taken, pre .1 .1 .inLog), rw (ap (λ r. r .node) streams) (look-found (l .inv .3))),
+      (streams ∙ sym (ap (λ k. streamsAs (c .before .before .before .before .before .before .before .before .args .sheet .now) k) (ap (λ r. r .node) streams)), omega (arith, c .before .loop-test .taken, pre .1 .1 .inLog), rw (ap (λ r. r .node) streams) (look-found (l .inv .3)), rw (ap (λ r. r .node) streams) (pre .0 .0)),
       (omega (arith, most, l .inv .3 .few), omega (arith, most, pre .0 .2, l .inv .2)),
     )
 

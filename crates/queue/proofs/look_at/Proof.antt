@@ -52,7 +52,7 @@ own c =
 place-among-requires : tie.Need-place-among-requires
 place-among-requires c κs =
     let pre = c .before .before .before .before .before .before .before .before .before .before .pre in
-    ((pre .0 .0, own (c .before)), (omega (arith, pre .1), pre .0 .2))
+    ((pre .0 .0, own (c .before), pre .0 .3), (omega (arith, pre .1), pre .0 .2))
 
 put-among-requires : tie.Need-put-among-requires
 put-among-requires c κs = search needs

@@ -9,15 +9,15 @@ use Rattle.tables.proofs.check_body.Statement.{statement}
 use Rattle.tables.proofs.check_body.Tie as tie
 
 abbrev Inv-loop : tie.InvT-loop
-Inv-loop periods deadlines before k count i₀ i = (i ≤ count) × (rest (tableStreamRefusal periods deadlines before k) i count ≡ firstOf (tableStreamRefusal periods deadlines before k) 1 count)
+Inv-loop periods deadlines jitters before k count i₀ i = (i ≤ count) × (rest (tableStreamRefusal periods deadlines jitters before k) i count ≡ firstOf (tableStreamRefusal periods deadlines jitters before k) 1 count)
 
 abbrev μ-loop : tie.MeasureT-loop
-μ-loop periods deadlines before k count i₀ i = count - i
+μ-loop periods deadlines jitters before k count i₀ i = count - i
 
 loop-holds : tie.Need-loop-holds Inv-loop μ-loop
 loop-holds c =
-    let a = c .before .before .args in
-    (omega arith, rest-start (tableStreamRefusal (a .periods .now) (a .deadlines .now) (a .before) (a .k)) _)
+    let a = c .before .before .before .args in
+    (omega arith, rest-start (tableStreamRefusal (a .periods .now) (a .deadlines .now) (a .jitters .now) (a .before) (a .k)) _)
 
 add-check-stream : tie.Need-add-check-stream Inv-loop μ-loop
 add-check-stream c = omega arith
@@ -27,8 +27,8 @@ check-stream-requires c κs = (omega arith, omega arith)
 
 returns : tie.Need-returns Inv-loop μ-loop
 returns c =
-    let a = c .before .before .before .before .before .before .before .args in
-    rest-stop (tableStreamRefusal (a .periods .now) (a .deadlines .now) (a .before) (a .k)) _ _ (c .before .before .before .loop-test .taken) (c .before .before .check-stream .ensures) (c .if1 .taken) (c .before .before .before .before .loop .inv .1)
+    let a = c .before .before .before .before .before .before .before .before .args in
+    rest-stop (tableStreamRefusal (a .periods .now) (a .deadlines .now) (a .jitters .now) (a .before) (a .k)) _ _ (c .before .before .before .loop-test .taken) (c .before .before .check-stream .ensures) (c .if1 .taken) (c .before .before .before .before .loop .inv .1)
 
 add-i : tie.Need-add-i Inv-loop μ-loop
 add-i c = omega arith
@@ -38,13 +38,13 @@ loop-less c = omega arith
 
 loop-again : tie.Need-loop-again Inv-loop μ-loop
 loop-again c =
-    let a = c .before .before .before .before .before .before .before .args in
-    (omega arith, rest-on (tableStreamRefusal (a .periods .now) (a .deadlines .now) (a .before) (a .k)) _ _ (c .before .before .before .loop-test .taken) (c .before .before .check-stream .ensures) (c .if1 .left) (c .before .before .before .before .loop .inv .1))
+    let a = c .before .before .before .before .before .before .before .before .args in
+    (omega arith, rest-on (tableStreamRefusal (a .periods .now) (a .deadlines .now) (a .jitters .now) (a .before) (a .k)) _ _ (c .before .before .before .loop-test .taken) (c .before .before .check-stream .ensures) (c .if1 .left) (c .before .before .before .before .loop .inv .1))
 
 returns-2 : tie.Need-returns-2 Inv-loop μ-loop
 returns-2 c =
-    let a = c .before .before .before .before .args in
-    rest-end (tableStreamRefusal (a .periods .now) (a .deadlines .now) (a .before) (a .k)) _ _ (c .loop-test .left) (c .before .loop .inv .1)
+    let a = c .before .before .before .before .before .args in
+    rest-end (tableStreamRefusal (a .periods .now) (a .deadlines .now) (a .jitters .now) (a .before) (a .k)) _ _ (c .loop-test .left) (c .before .loop .inv .1)
 
 pub check-body-spec : {M : Type 1} → statement M
 check-body-spec =

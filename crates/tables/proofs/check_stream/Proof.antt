@@ -22,6 +22,9 @@ word-at-requires c κs = search needs
 word-at-requires-2 : tie.Need-word-at-requires-2
 word-at-requires-2 c κs = search needs
 
+word-at-requires-3 : tie.Need-word-at-requires-3
+word-at-requires-3 c κs = search needs
+
 times-outside-requires : tie.Need-times-outside-requires
 times-outside-requires c κs = search needs
 
@@ -30,9 +33,17 @@ refuse-if-requires c κs = search needs
 
 returns : tie.Need-returns
 unfolding tableStreamRefusal
-returns c = let a = c .before .before .before .before .before .before .before .args in
-    let at : a .before + c .before .before .before .before .wide .result ≡ a .before + pred (a .j) = omega (arith, c .before .before .before .before .wide .ensures .0, c .before .before .before .before .before .before .before .pre .0) in
-    rw (c .before .times-outside .ensures, c .before .before .before .word-at .ensures, c .before .before .word-at2 .ensures, at) at (c .refuse-if .ensures)
+returns c =
+    let e = c .before .before .before .before .before .before .before .before .before in
+    let at : e .args .before + c .before .before .before .before .before .wide .result ≡ e .args .before + pred (e .args .j) = omega (arith, c .before .before .before .before .before .wide .ensures .0, e .pre .0) in
+    rw (
+      c .before .times-outside .ensures,
+      c .before .before .before .before .word-at .ensures,
+      c .before .before .before .word-at2 .ensures,
+      c .before .before .word-at3 .ensures,
+      at,
+    )
+    at (c .refuse-if .ensures)
 
 pub check-stream-spec : {M : Type 1} → statement M
 check-stream-spec =
@@ -43,6 +54,7 @@ check-stream-spec =
     add-at
     word-at-requires
     word-at-requires-2
+    word-at-requires-3
     times-outside-requires
     refuse-if-requires
     returns)

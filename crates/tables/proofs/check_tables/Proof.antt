@@ -18,8 +18,8 @@ returns c = refused _ (c .before .before .check-contents .ensures) (c .if1 .take
 
 cast-n : tie.Need-cast-n
 cast-n c =
-    let a = c .before .before .before .before .before .before .before .args in
-    let t = lentTables (a .message) (a .slot) (a .counts .now) (a .budgets .now) (a .periods .now) (a .deadlines .now) in
+    let a = c .before .before .before .before .before .before .before .before .args in
+    let t = lentTables (a .message) (a .slot) (a .counts .now) (a .budgets .now) (a .periods .now) (a .deadlines .now) (a .jitters .now) in
     omega (arith, contents-fit t (rw (c .before .before .check-contents .ensures) at (c .if1 .left)) .nodesTo)
 
 sum-up-to-requires : tie.Need-sum-up-to-requires

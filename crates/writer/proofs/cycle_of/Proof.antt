@@ -12,8 +12,8 @@ use Rattle.writer.proofs.cycle_of.Statement.{statement}
 use Rattle.writer.proofs.cycle_of.Tie as tie
 
 -- What the caller knows of the tables.
-fit : (c : tie.Start) → ContentsFit (lentTables (c .args .message) (c .args .slot) (c .args .counts .now) (c .args .budgets .now) [] [])
-fit c = contents-fit (lentTables (c .args .message) (c .args .slot) (c .args .counts .now) (c .args .budgets .now) [] []) (c .pre)
+fit : (c : tie.Start) → ContentsFit (lentTables (c .args .message) (c .args .slot) (c .args .counts .now) (c .args .budgets .now) [] [] [])
+fit c = contents-fit (lentTables (c .args .message) (c .args .slot) (c .args .counts .now) (c .args .budgets .now) [] [] []) (c .pre)
 
 -- The sum up to the last node is that of the whole table.
 sum : (c : tie.After-sum-up-to) → c .sum-up-to .result ≡ sumOf (c .before .before .before .args .budgets .now)

@@ -96,10 +96,10 @@ contents-pass t passes = orElse-both (contentsRefusal (t .message) (t .slot) (t 
 -- What the check of the tables leaves.
 fit : (c : tie.Else1)
     → TablesFit
-    (lentTables (c .before .before .before .before .before .before .before .before .args .message-ticks) (c .before .before .before .before .before .before .before .before .args .slot-ticks) (c .before .before .before .before .before .before .before .before .args .counts .now) (c .before .before .before .before .before .before .before .before .args .budgets .now) (c .before .before .before .before .before .before .before .before .args .periods .now) (c .before .before .before .before .before .before .before .before .args .deadlines .now))
+    (lentTables (c .before .before .before .before .before .before .before .before .before .args .message-ticks) (c .before .before .before .before .before .before .before .before .before .args .slot-ticks) (c .before .before .before .before .before .before .before .before .before .args .counts .now) (c .before .before .before .before .before .before .before .before .before .args .budgets .now) (c .before .before .before .before .before .before .before .before .before .args .periods .now) (c .before .before .before .before .before .before .before .before .before .args .deadlines .now) (c .before .before .before .before .before .before .before .before .before .args .jitters .now))
 fit c =
-    let a = c .before .before .before .before .before .before .before .before .args in
-    tables-fit (lentTables (a .message-ticks) (a .slot-ticks) (a .counts .now) (a .budgets .now) (a .periods .now) (a .deadlines .now)) (rw (c .before .before .check-tables .ensures) at (c .if1 .left))
+    let a = c .before .before .before .before .before .before .before .before .before .args in
+    tables-fit (lentTables (a .message-ticks) (a .slot-ticks) (a .counts .now) (a .budgets .now) (a .periods .now) (a .deadlines .now) (a .jitters .now)) (rw (c .before .before .check-tables .ensures) at (c .if1 .left))
 
 check-tables-requires : tie.Need-check-tables-requires
 check-tables-requires c κs = search needs
@@ -107,8 +107,8 @@ check-tables-requires c κs = search needs
 returns : tie.Need-returns
 unfolding writeAnswer writeBuffer
 returns c =
-    let a = c .before .before .before .before .before .before .before .before .args in
-    let t = lentTables (a .message-ticks) (a .slot-ticks) (a .counts .now) (a .budgets .now) (a .periods .now) (a .deadlines .now) in
+    let a = c .before .before .before .before .before .before .before .before .before .args in
+    let t = lentTables (a .message-ticks) (a .slot-ticks) (a .counts .now) (a .budgets .now) (a .periods .now) (a .deadlines .now) (a .jitters .now) in
     refusing t (a .room .now) (by-tables t (length (a .room .now)) (c .before .before .check-tables .ensures) (c .if1 .taken)) (c .if1 .taken)
 
 cast-sheet-words : tie.Need-cast-sheet-words
@@ -123,25 +123,25 @@ refuse-if-requires c κs = search needs
 returns-2 : tie.Need-returns-2
 unfolding writeAnswer writeBuffer
 returns-2 c =
-    let a = c .before .before .before .before .before .before .before .before .before .before .before .before .args in
-    let t = lentTables (a .message-ticks) (a .slot-ticks) (a .counts .now) (a .budgets .now) (a .periods .now) (a .deadlines .now) in
+    let a = c .before .before .before .before .before .before .before .before .before .before .before .before .before .args in
+    let t = lentTables (a .message-ticks) (a .slot-ticks) (a .counts .now) (a .budgets .now) (a .periods .now) (a .deadlines .now) (a .jitters .now) in
     refusing t (a .room .now) (by-room t (length (a .room .now)) (c .before .before .before .before .before .before .check-tables .ensures) (c .before .before .before .before .if1 .left) (c .before .before .before .sheet-words .ensures) (c .before .before .refuse-if .ensures) (c .if2 .taken)) (c .if2 .taken)
 
 write-words-requires : tie.Need-write-words-requires
 write-words-requires c κs =
     let f = fit (c .before .before .before .before .before) .contents in
-    let long = long-enough (length (c .before .before .before .before .before .before .before .before .before .before .before .before .before .args .room .now)) (c .before .before .before .before .sheet-words .result) (c .before .before .before .refuse-if .ensures) (c .before .if2 .left) in
-    (f .nodesTo, streams-most _ f (length (c .before .before .before .before .before .before .before .before .before .before .before .before .before .args .counts .now)) (omega arith), omega (arith, c .before .before .before .before .sheet-words .ensures, long))
+    let long = long-enough (length (c .before .before .before .before .before .before .before .before .before .before .before .before .before .before .args .room .now)) (c .before .before .before .before .sheet-words .result) (c .before .before .before .refuse-if .ensures) (c .before .if2 .left) in
+    (f .nodesTo, streams-most _ f (length (c .before .before .before .before .before .before .before .before .before .before .before .before .before .before .args .counts .now)) (omega arith), omega (arith, c .before .before .before .before .sheet-words .ensures, long))
 
-cast-t13 : tie.Need-cast-t13
-cast-t13 c =
+cast-t14 : tie.Need-cast-t14
+cast-t14 c =
     let f = fit (c .before .before .before .before .before .before .before .before) .contents in
-    omega (arith, c .before .before .before .before .before .before .before .sheet-words .ensures, f .nodesTo, streams-most _ f (length (c .before .before .before .before .before .before .before .before .before .before .before .before .before .before .before .before .args .counts .now)) (omega arith))
+    omega (arith, c .before .before .before .before .before .before .before .sheet-words .ensures, f .nodesTo, streams-most _ f (length (c .before .before .before .before .before .before .before .before .before .before .before .before .before .before .before .before .before .args .counts .now)) (omega arith))
 
 cycle-of-requires : tie.Need-cycle-of-requires
 cycle-of-requires c κs =
-    let a = c .before .before .before .before .before .before .before .before .before .before .before .before .before .before .before .before .args in
-    contents-pass (lentTables (a .message-ticks) (a .slot-ticks) (a .counts .now) (a .budgets .now) (a .periods .now) (a .deadlines .now)) (rw (c .before .before .before .before .before .before .before .before .before .before .check-tables .ensures) at (c .before .before .before .before .before .before .before .before .if1 .left))
+    let a = c .before .before .before .before .before .before .before .before .before .before .before .before .before .before .before .before .before .args in
+    contents-pass (lentTables (a .message-ticks) (a .slot-ticks) (a .counts .now) (a .budgets .now) (a .periods .now) (a .deadlines .now) (a .jitters .now)) (rw (c .before .before .before .before .before .before .before .before .before .before .check-tables .ensures) at (c .before .before .before .before .before .before .before .before .if1 .left))
 
 same-length : tie.Need-same-length
 same-length c = search needs
@@ -149,8 +149,8 @@ same-length c = search needs
 returns-3 : tie.Need-returns-3
 unfolding writeAnswer writeBuffer
 returns-3 c =
-    let a = c .before .before .before .before .before .before .before .before .before .before .before .before .before .before .before .before .before .args in
-    let t = lentTables (a .message-ticks) (a .slot-ticks) (a .counts .now) (a .budgets .now) (a .periods .now) (a .deadlines .now) in
+    let a = c .before .before .before .before .before .before .before .before .before .before .before .before .before .before .before .before .before .before .args in
+    let t = lentTables (a .message-ticks) (a .slot-ticks) (a .counts .now) (a .budgets .now) (a .periods .now) (a .deadlines .now) (a .jitters .now) in
     let answer = by-none t (length (a .room .now)) (c .before .before .before .before .before .before .before .before .before .before .before .check-tables .ensures) (c .before .before .before .before .before .before .before .before .before .if1 .left) (c .before .before .before .before .before .before .before .before .sheet-words .ensures) (c .before .before .before .before .before .before .before .refuse-if .ensures) (c .before .before .before .before .before .if2 .left) (c .cycle-of .ensures) in
     succeeding t (a .room .now) answer refl (c .before .before .before .write-words .ensures)
 
@@ -165,7 +165,7 @@ write-sheet-spec =
     refuse-if-requires
     returns-2
     write-words-requires
-    cast-t13
+    cast-t14
     cycle-of-requires
     same-length
     returns-3)

@@ -54,9 +54,9 @@ same-length c = search needs
 
 returns : tie.Need-returns
 returns c =
-    let a = c .before .before .before .before .before .before .before .before .before .before .before .before .before .before .before .before .before .args in
-    let t = lentTables (a .message) (a .slot) (a .counts .now) (a .budgets .now) (a .periods .now) (a .deadlines .now) in
-    parts-written t (a .room .now) _ _ _ (c .before .before .before .before .before .before .before .before .before .before .before .before .before .before .before .before .before .pre .2) (c .before .before .before .before .before .before .before .before .before .before .put-header .ensures) (c .before .before .before .before .before .before .write-rows .ensures) (c .before .before .write-bodies .ensures)
+    let a = c .before .before .before .before .before .before .before .before .before .before .before .before .before .before .before .before .before .before .args in
+    let t = lentTables (a .message) (a .slot) (a .counts .now) (a .budgets .now) (a .periods .now) (a .deadlines .now) (a .jitters .now) in
+    parts-written t (a .room .now) _ _ _ (c .before .before .before .before .before .before .before .before .before .before .before .before .before .before .before .before .before .before .pre .2) (c .before .before .before .before .before .before .before .before .before .before .put-header .ensures) (c .before .before .before .before .before .before .write-rows .ensures) (c .before .before .write-bodies .ensures)
 
 pub write-words-spec : {M : Type 1} → statement M
 write-words-spec =

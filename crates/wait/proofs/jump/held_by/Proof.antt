@@ -1,4 +1,5 @@
 -- `wait::jump::held_by` meets its contract: what is held is at most a message a tick. Assumes nothing.
+use Prim.Native.Nat.{_+_}
 use mathlib.Core.Path.{sym, _∙_}
 use native.Mathlib.Nat.{div-le-self}
 use native.Mathlib.Omega.{arith}
@@ -19,14 +20,14 @@ unfolding mostReleases
 returns c =
     let a = c .before .before .before .args in
     let counted = c .long .ensures .0 ∙ c .before .most-releases .ensures in (
-      counted ∙ sym (held-past (a .reach) (a .w) 0 (a .period) (c .before .before .if1 .taken)),
-      omega (arith, counted, div-le-self (a .w) (a .period), c .before .before .before .pre .1),
+      counted ∙ sym (held-past (a .reach) (a .w) 0 (a .period) (a .jitter) (c .before .before .if1 .taken)),
+      omega (arith, counted, div-le-self (a .w + a .jitter) (a .period), c .before .before .before .pre .1, c .before .before .before .pre .2),
     )
 
 returns-2 : tie.Need-returns-2
 returns-2 c =
     let a = c .before .args in
-    (sym (held-within (a .reach) (a .w) 0 (a .period) (c .if1 .left)), omega arith)
+    (sym (held-within (a .reach) (a .w) 0 (a .period) (a .jitter) (c .if1 .left)), omega arith)
 
 pub held-by-spec : {M : Type 1} → statement M
 held-by-spec = tie.close (tie.spec most-releases-requires long-requires returns returns-2)

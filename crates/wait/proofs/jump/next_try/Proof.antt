@@ -18,28 +18,28 @@ div-plain c = search needs
 
 add-plain : tie.Need-add-plain
 add-plain c =
-    let a = c .before .before .args in
-    let p = c .before .before .pre in
+    let a = c .before .before .before .args in
+    let p = c .before .before .before .pre in
     let w = a .cycles * a .timing .cycle - 1 in
-    let window : w + 1 ≤ maxTime + 2 = omega (arith, p .2 .tried .cyclesTo) in
+    let window : w + maxTime + 1 ≤ 2 * maxTime + 2 = omega (arith, p .2 .tried .cyclesTo) in
     omega (
       arith,
       div-le-self (a .h) (c .long .result),
       p .2 .tried .counted,
-      by-most (a .periods .now) w,
+      by-most (a .periods .now) (a .jitters .now) (p .0) w,
       mul-le-mul (p .0 .few) window,
     )
 
 farther-requires : tie.Need-farther-requires
 farther-requires c κs =
-    let a = c .before .before .args in
-    let p = c .before .before .pre in
+    let a = c .before .before .before .args in
+    let p = c .before .before .before .pre in
     let at = p .2 .tried in (
       p .0,
       p .1,
       at .fromOne,
       at .cyclesTo,
-      λ i from enough. rw (at .counted, c .long .ensures .0) (plain-jump (a .timing) (a .cycles) i (by-grows (a .periods .now)) from enough),
+      λ i from enough. rw (at .counted, c .long .ensures .0) (plain-jump (a .timing) (a .cycles) i (by-grows (a .periods .now) (a .jitters .now)) from enough),
     )
 
 long-requires-2 : tie.Need-long-requires-2
@@ -52,10 +52,10 @@ add-result : tie.Need-add-result
 add-result c = search needs
 
 -- The plain jump goes on by one at least: the streams above fill the turns.
-on : (c : tie.After-long) → c .before .before .args .cycles < c .before .before .args .h / c .long .result + 1
+on : (c : tie.After-long) → c .before .before .before .args .cycles < c .before .before .before .args .h / c .long .result + 1
 on c =
-    let a = c .before .before .args in
-    let p = c .before .before .pre in
+    let a = c .before .before .before .args in
+    let p = c .before .before .before .pre in
     let most : a .cycles ≤ a .h / a .timing .budget = le-div-iff-mul-le (p .1 .shares .budgetFrom) .1 (p .2 .filled) in
     rw (c .long .ensures .0) (omega arith)
 
@@ -70,7 +70,7 @@ returns c =
 returns-2 : tie.Need-returns-2
 returns-2 c =
     let farther = c .before .before .farther .ensures in (
-      omega (arith, c .before .before .before .before .before .pre .3),
+      omega (arith, c .before .before .before .before .before .before .pre .3),
       omega arith,
       λ i from enough. omega (arith, c .if1 .left, c .before .long2 .ensures .0, farther .1 i from enough),
     )

@@ -25,14 +25,14 @@ returns : tie.Need-returns
 returns c =
     let a = c .before .before .before .args in
     let divided = ap₂ (λ n p. n * scale / p) (c .before .long .ensures .0) (c .long2 .ensures .0) in (
-      divided ∙ sym (rated-within (a .reach) 0 (a .cycle) (a .period) (c .before .before .if1 .taken)),
+      divided ∙ sym (rated-within (a .reach) 0 (a .cycle) (a .period) 0 (c .before .before .if1 .taken)),
       omega (arith, divided, div-le-self (a .cycle * scale) (a .period), c .before .before .before .pre .1),
     )
 
 returns-2 : tie.Need-returns-2
 returns-2 c =
     let a = c .before .args in
-    (sym (rated-past (a .reach) 0 (a .cycle) (a .period) (c .if1 .left)), omega arith)
+    (sym (rated-past (a .reach) 0 (a .cycle) (a .period) 0 (c .if1 .left)), omega arith)
 
 pub rated-by-spec : {M : Type 1} → statement M
 rated-by-spec =

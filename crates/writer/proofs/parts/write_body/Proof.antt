@@ -17,43 +17,44 @@ use Rattle.writer.proofs.parts.write_body.Statement.{statement}
 use Rattle.writer.proofs.parts.write_body.Tie as tie
 
 -- The next stream's words, put into the part that is lent after those passed.
-next-stream : (periods deadlines old body part : List ℕ) (before i at : ℕ) {p d : ℕ}
+next-stream : (periods deadlines jitters old body part : List ℕ) (before i at : ℕ) {p d q : ℕ}
     → streamWords * i ≤ length old
     → at + streamWords ≤ length body
     → at ≡ streamWords * i
-    → body ≡ replacedAt old 0 (bodyOf periods deadlines before i)
+    → body ≡ replacedAt old 0 (bodyOf periods deadlines jitters before i)
     → p ≡ word periods (before + i)
     → d ≡ word deadlines (before + i)
-    → part ≡ putFront (p ∷ d ∷ []) (take (length body - at) (drop at body))
-    → take at body ++ (part ++ drop (length body - at) (drop at body)) ≡ replacedAt old 0 (bodyOf periods deadlines before (i + 1))
+    → q ≡ word jitters (before + i)
+    → part ≡ putFront (p ∷ d ∷ q ∷ []) (take (length body - at) (drop at body))
+    → take at body ++ (part ++ drop (length body - at) (drop at body)) ≡ replacedAt old 0 (bodyOf periods deadlines jitters before (i + 1))
 unfolding streamWordsOf
-next-stream periods deadlines old body part before i at {p} {d} fits free place so-far period deadline put =
-    let words : List ℕ = streamWordsOf periods deadlines (before + i) in
-    let long = streams-length periods deadlines before i in
+next-stream periods deadlines jitters old body part before i at {p} {d} {q} fits free place so-far period deadline jitter put =
+    let words : List ℕ = streamWordsOf periods deadlines jitters (before + i) in
+    let long = streams-length periods deadlines jitters before i in
     let lent = take (length body - at) (drop at body) in
     let back = put-fits words lent (omega (arith, free, lent-length body at)) in
-    over-next old body part (bodyOf periods deadlines before i) words 0 at (omega (arith, fits, long)) (omega (arith, place, long)) so-far ((rw (period, deadline) at put) ∙ back)
-    ∙ ap (replacedAt old 0) (joined-next (streamWordsOf periods deadlines) before i)
+    over-next old body part (bodyOf periods deadlines jitters before i) words 0 at (omega (arith, fits, long)) (omega (arith, place, long)) so-far ((rw (period, deadline, jitter) at put) ∙ back)
+    ∙ ap (replacedAt old 0) (joined-next (streamWordsOf periods deadlines jitters) before i)
 
 abbrev Inv-loop : tie.InvT-loop
-Inv-loop periods deadlines before count body₀ i₀ body i =
-    (i ≤ count) × (length body ≡ length body₀) × (body ≡ replacedAt body₀ 0 (bodyOf periods deadlines before i))
+Inv-loop periods deadlines jitters before count body₀ i₀ body i =
+    (i ≤ count) × (length body ≡ length body₀) × (body ≡ replacedAt body₀ 0 (bodyOf periods deadlines jitters before i))
 
 abbrev μ-loop : tie.MeasureT-loop
-μ-loop periods deadlines before count body₀ i₀ body i = count - i
+μ-loop periods deadlines jitters before count body₀ i₀ body i = count - i
 
 loop-holds : tie.Need-loop-holds Inv-loop μ-loop
 loop-holds c =
-    let a = c .before .before .before .args in
-    (omega arith, refl, over-none (a .body .now) 0 ∙ ap (replacedAt (a .body .now) 0) (sym (joined-nil (streamWordsOf (a .periods .now) (a .deadlines .now)) (a .before))))
+    let a = c .before .before .before .before .args in
+    (omega arith, refl, over-none (a .body .now) 0 ∙ ap (replacedAt (a .body .now) 0) (sym (joined-nil (streamWordsOf (a .periods .now) (a .deadlines .now) (a .jitters .now)) (a .before))))
 
 -- The part has the words of the next stream.
-free : (c : tie.After-word-at2 Inv-loop μ-loop)
-    → c .before .before .body-words .result + streamWords ≤ length (c .before .before .before .before .before .loop .body)
+free : (c : tie.After-word-at3 Inv-loop μ-loop)
+    → c .before .before .before .body-words .result + streamWords ≤ length (c .before .before .before .before .before .before .loop .body)
 free c =
-    let l = c .before .before .before .before .before .loop in
-    let p = c .before .before .before .before .before .before .before .before .before .pre in
-    omega (arith, c .before .before .body-words .ensures .0, c .before .before .before .before .loop-test .taken, l .inv .1, p .1)
+    let l = c .before .before .before .before .before .before .loop in
+    let p = c .before .before .before .before .before .before .before .before .before .before .before .pre in
+    omega (arith, c .before .before .before .body-words .ensures .0, c .before .before .before .before .before .loop-test .taken, l .inv .1, p .1)
 
 wide-requires : tie.Need-wide-requires Inv-loop μ-loop
 wide-requires c κs = search needs
@@ -70,8 +71,11 @@ word-at-requires c κs = search needs
 word-at-requires-2 : tie.Need-word-at-requires-2 Inv-loop μ-loop
 word-at-requires-2 c κs = search needs
 
+word-at-requires-3 : tie.Need-word-at-requires-3 Inv-loop μ-loop
+word-at-requires-3 c κs = search needs
+
 mul-put-stream : tie.Need-mul-put-stream Inv-loop μ-loop
-mul-put-stream c = omega (arith, free c, c .before .before .before .before .before .before .before .before .before .good)
+mul-put-stream c = omega (arith, free c, c .before .before .before .before .before .before .before .before .before .before .before .good)
 
 sub-put-stream : tie.Need-sub-put-stream Inv-loop μ-loop
 sub-put-stream c = omega (arith, free c)
@@ -93,20 +97,23 @@ loop-less c = omega arith
 
 loop-again : tie.Need-loop-again Inv-loop μ-loop
 loop-again c =
-    let a = c .before .before .before .before .before .before .before .before .before .before .before .before .before .args in
-    let l = c .before .before .before .before .before .before .before .before .before .loop in
-    let from = ap (λ n. a .before + n) (c .before .before .before .before .before .before .before .wide .ensures .0) in
+    let e = c .before .before .before .before .before .before .before .before .before .before .before .before .before .before .before in
+    let a = e .args in
+    let l = c .before .before .before .before .before .before .before .before .before .before .loop in
+    let inside = c .before .before .before .before .before .before .before .before .before .loop-test .taken in
+    let from = ap (λ n. a .before + n) (c .before .before .before .before .before .before .before .before .wide .ensures .0) in
     let put = c .before .before .put-stream in
     let room = free (c .before .before .before .before) in (
-      omega (arith, c .before .before .before .before .before .before .before .before .loop-test .taken),
+      omega (arith, inside),
       rw (← l .inv .1) (c .before .body .given .1),
-      next-stream (a .periods .now) (a .deadlines .now) (a .body .now) (l .body) (put .last .1 .1 .0) (a .before) (l .i) _
-          (omega (arith, c .before .before .before .before .before .before .before .before .before .before .before .before .before .pre .1, c .before .before .before .before .before .before .before .before .loop-test .taken))
+      next-stream (a .periods .now) (a .deadlines .now) (a .jitters .now) (a .body .now) (l .body) (put .last .1 .1 .1 .0) (a .before) (l .i) _
+          (omega (arith, e .pre .1, inside))
           room
-          (c .before .before .before .before .before .before .body-words .ensures .0)
+          (c .before .before .before .before .before .before .before .body-words .ensures .0)
           (l .inv .2)
-          (c .before .before .before .before .before .word-at .ensures ∙ ap (word (a .periods .now)) from)
-          (c .before .before .before .before .word-at2 .ensures ∙ ap (word (a .deadlines .now)) from)
+          (c .before .before .before .before .before .before .word-at .ensures ∙ ap (word (a .periods .now)) from)
+          (c .before .before .before .before .before .word-at2 .ensures ∙ ap (word (a .deadlines .now)) from)
+          (c .before .before .before .before .word-at3 .ensures ∙ ap (word (a .jitters .now)) from)
           (put .ensures),
     )
 
@@ -115,11 +122,11 @@ same-length c = c .before .loop .inv .1
 
 returns : tie.Need-returns Inv-loop μ-loop
 returns c =
-    let a = c .before .before .before .before .before .args in
+    let a = c .before .before .before .before .before .before .args in
     let l = c .before .loop in
     let done : l .i ≡ a .count = omega (arith, c .loop-test .left, l .inv .0) in
-    let long = streams-length (a .periods .now) (a .deadlines .now) (a .before) (a .count) in
-    l .inv .2 ∙ rw done (over-front (a .body .now) (bodyOf (a .periods .now) (a .deadlines .now) (a .before) (a .count)) ∙ rw long refl)
+    let long = streams-length (a .periods .now) (a .deadlines .now) (a .jitters .now) (a .before) (a .count) in
+    l .inv .2 ∙ rw done (over-front (a .body .now) (bodyOf (a .periods .now) (a .deadlines .now) (a .jitters .now) (a .before) (a .count)) ∙ rw long refl)
 
 pub write-body-spec : {M : Type 1} → statement M
 write-body-spec =
@@ -133,6 +140,7 @@ write-body-spec =
     body-words-requires
     word-at-requires
     word-at-requires-2
+    word-at-requires-3
     mul-put-stream
     sub-put-stream
     part-put-stream-start

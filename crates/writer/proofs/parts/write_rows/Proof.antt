@@ -10,7 +10,7 @@ use Rattle.theory.specs.Listing.{joinedFrom, replacedAt, putFront}
 use Rattle.theory.proofs.Listing.{joined-nil, joined-next}
 use Rattle.theory.proofs.Overwriting.{over-none, over-next, lent-length, put-fits}
 use Rattle.theory.proofs.Sums.{sumTo-none, sumTo-more, sumTo-room}
-use Rattle.model.specs.Limits.{headerWords, rowWords, streamWords}
+use Rattle.model.specs.Limits.{headerWords, rowWords, streamWords, longestSheet}
 use Rattle.model.specs.Sheet.{rowAt, bodyAt}
 use Rattle.tables.specs.Tables.{nodeEntry, sumUpTo}
 use Rattle.tables.specs.Writing.{rowOf}
@@ -72,7 +72,7 @@ free c =
 
 -- The place of a body is a small number.
 small : (c : tie.After-node-entry Inv-loop μ-loop)
-    → c .before .before .before .loop .place + streamWords * c .node-entry .result ≤ 563
+    → c .before .before .before .loop .place + streamWords * c .node-entry .result ≤ longestSheet
 small c =
     let l = c .before .before .before .loop in
     let start = c .before .before .before .before .before .before .before .before in
