@@ -86,12 +86,12 @@ record EventsApart (s log : List ℕ) (k : ℕ) (y : Stream) : Type 0 where
   notBefore : (i : ℕ) → i < releases log → OfStream s log k y i → latest i ≤ releaseTick log i + y .jitter
 
 -- So it is with a stream that keeps its least period,
-kept-apart : {s log : List ℕ} {k j : ℕ}
+kept-events : {s log : List ℕ} {k j : ℕ}
     → SheetFits s
     → OnSheet s k j
     → KeepsPeriod s log k j
     → EventsApart s log k (streamOf s k j)
-kept-apart {s} {log} {k} {j} fits on (latest, fit) =
+kept-events {s} {log} {k} {j} fits on (latest, fit) =
     record {
       some = fits .streams k j on .periodFrom;
       latest = latest;
@@ -112,7 +112,7 @@ all-apart : {s log : List ℕ} {k j : ℕ}
 all-apart {s} {log} {k} {j} fits on kept y m = ⊎-elim itself higher (List·Memᴰ·cases-cons m)
   where
     itself : y ≡ streamOf s k j → EventsApart s log k y
-    itself e = rw e (kept-apart fits on (kept .itself))
+    itself e = rw e (kept-events fits on (kept .itself))
 
     higher : List·Memᴰ y (higherStreams s k j) → EventsApart s log k y
     higher l =
@@ -124,7 +124,7 @@ all-apart {s} {log} {k} {j} fits on kept y m = ⊎-elim itself higher (List·Mem
           streamFrom = w .1;
           streamTo = omega (arith, w .2);
         } in
-        rw (w .3) (kept-apart fits there (kept .rankedAbove (w .0) there (rw (w .3) at (a .1))))
+        rw (w .3) (kept-events fits there (kept .rankedAbove (w .0) there (rw (w .3) at (a .1))))
 
 -- In w ticks, with the stream's jitter at most its period, there come of the class of a message of it at most the message itself and
 -- the interference of the streams above.
