@@ -1,9 +1,9 @@
 /* The proved planner for C and C++: link libwistorvan.a, which `rt staticlib wistorvan` writes to target/staticlib.
 
    Every function answers any input and asks nothing of its caller beyond what C cannot check: each pointer must be good for
-   the number of words passed with it, a table that is written and the record must not overlap another table, and nothing else
-   may write to a table or the record during the call. With 0 words any pointer is good, NULL too. A refusal changes no word of
-   any table and no field of the record. Nothing is kept between calls.
+   the number of words passed with it, a table that is written and a record (the bus, the checkpoint) must not overlap another
+   table, and nothing else may write to a table or a record during the call. With 0 words any pointer is good, NULL too. A
+   refusal changes no word of any table and no field of a record. Nothing is kept between calls.
 
    No compiler holds these declarations to the Rattle source, crates/wistorvan/src/lib.rt; a test in rust/ compares their text. */
 #ifndef WISTORVAN_H
@@ -26,8 +26,16 @@ extern "C" {
 #define WISTORVAN_MAX_RELEASES 4096
 #define WISTORVAN_LONGEST_SHEET 819
 
+/* The most messages that wait and come in one piece of a log (resume): a room of twice so many words is always long enough. And
+   the words of a checkpoint. */
+#define WISTORVAN_MAX_WAITING 256
+#define WISTORVAN_CHECKPOINT_WORDS 774
+
+/* The checkpoint before the first piece: struct wistorvan_checkpoint checkpoint = WISTORVAN_FRESH_CHECKPOINT; */
+#define WISTORVAN_FRESH_CHECKPOINT {0, 0, 1, 0, 0, 0, {0}, {0}, {0}}
+
 /* The first number of an answer, by name: success, or what is refused. Of all refusals that apply, the first in the order that
-   stands at each function is given. 12 to 15 are kept for later ones, so expect numbers that have no name here yet. */
+   stands at each function is given. 13 to 15 are kept for later ones, so expect numbers that have no name here yet. */
 enum wistorvan_number {
     /* Success. */
     WISTORVAN_OK = 0,
@@ -45,8 +53,9 @@ enum wistorvan_number {
     /* A period is not 1 to 1,000,000,000, a deadline not 1 to its period or a jitter not less than its period, on the sheet or in
        the tables (write_sheet), first in sheet order. Place: node, stream. */
     WISTORVAN_BAD_STREAM = 5,
-    /* The room is shorter than one word a stream (admit) or a release (replay, step), than the sheet (write_sheet), or than
-       sixteen words, however few the nodes are (find_budgets). Place: 0, 0. */
+    /* The room is shorter than one word a stream (admit) or a release (replay, step), than the sheet (write_sheet), than sixteen
+       words, however few the nodes are (find_budgets), or than two words for each message that waits and each release of the
+       piece, begun or not (resume). Place: 0, 0. */
     WISTORVAN_ROOM_TOO_SHORT = 6,
     /* A stream is late: a message of it could be delivered after its deadline, which runs from its event, jitter ticks before its
        queuing at most (delivery is when its turn's protocol slot ends). The first in sheet order (admit) or the asked one
@@ -54,15 +63,21 @@ enum wistorvan_number {
     WISTORVAN_LATE = 7,
     /* The sheet has no such stream (one_stream). Place: node, stream as asked. */
     WISTORVAN_NO_SUCH_STREAM = 8,
-    /* The log. First, its length is odd, then, it has more than 4,096 releases: place 0, 0. Then, the first release with a tick
-       over 1,000,000,000, a tick below the one before or an unknown stream: place 0, release from 1. */
+    /* The log, or a piece of it (resume). First, its length is odd, then, it has more than 4,096 releases, with those of all
+       pieces before: place 0, 0. Then, the first release with a tick over 1,000,000,000, a tick below the one before, a tick
+       below the checkpoint's horizon or not below the new one (resume) or an unknown stream: place 0, release from 1, which
+       counts within the piece. */
     WISTORVAN_BAD_LOG = 9,
-    /* The horizon is over 1,000,000,000. Place: 0, 0. */
+    /* The horizon is over 1,000,000,000, or below the checkpoint's (resume). Place: 0, 0. */
     WISTORVAN_HORIZON_TOO_LARGE = 10,
     /* No budgets of 1 to 16 make every stream in time (find_budgets). The node has a late stream and 16 already, in the earliest
        round with such a node, and is the first of them. Place: node, 0. */
     WISTORVAN_NO_BUDGETS = 11,
-    /* The record's tick or turns are over 1,000,000,000, or its node is not 1 to n. Place: 0, 0. */
+    /* The messages that wait and the releases of the piece are more than 256 together, whatever could begin between (resume).
+       Place: 0, 0. */
+    WISTORVAN_TOO_MANY_WAITING = 12,
+    /* The tick or the turns of the bus or the checkpoint are over 1,000,000,000, or its node is not 1 to n; or the checkpoint has
+       more than 256 waiting, more than 4,096 releases so far, or an unknown stream that waits. Place: 0, 0. */
     WISTORVAN_BAD_BUS = 16
 };
 
@@ -78,6 +93,21 @@ struct wistorvan_bus {
     uint32_t tick;
     uint32_t node;
     uint32_t turns;
+};
+
+/* A replay between two pieces of its log. A release that waits has its number in the whole log, from 1, its tick and the running
+   number of its stream; those that wait stand in log order from place 0, and after a piece every place past them is 0. The
+   replay starts at WISTORVAN_FRESH_CHECKPOINT. */
+struct wistorvan_checkpoint {
+    uint32_t horizon; /* of the last piece */
+    uint32_t tick; /* the next turn's start */
+    uint32_t node; /* the next turn's node, from 1 */
+    uint32_t turns; /* so far */
+    uint32_t releases; /* so far, in all pieces */
+    uint32_t waiting; /* how many places are in use */
+    uint32_t numbers[WISTORVAN_MAX_WAITING];
+    uint32_t ticks[WISTORVAN_MAX_WAITING];
+    uint32_t streams[WISTORVAN_MAX_WAITING];
 };
 
 /* Whether a sheet is valid: 0 0 0 if so. Refusals 1 to 5. */
@@ -100,6 +130,16 @@ struct wistorvan_answer wistorvan_replay(const uint32_t *sheet, size_t sheet_wor
    Refusals 1 to 5, 9, 16, 6. */
 struct wistorvan_answer wistorvan_step(const uint32_t *sheet, size_t sheet_words, const uint32_t *log, size_t log_words,
                                        struct wistorvan_bus *bus, uint32_t *room, size_t room_words);
+
+/* Replays the next piece of a log, up to a new horizon: messages begun in this piece and turns so far. The piece has two words a
+   release, like a log, with ticks from the checkpoint's horizon up to below the new one; the horizon may also stay as it is. The
+   checkpoint is set to the end of the piece. The first words of the room have the number in the whole log and the begin tick of
+   each message begun in this piece, in the order begun. From a fresh checkpoint, with one sheet and however a log is cut, the
+   pieces give each release the begin that the whole log gives at the last horizon, and the same turns. A checkpoint that was made
+   up is taken as it stands, if it is not refused. Refusals 1 to 5, 16, 9, 10, 12, 6. */
+struct wistorvan_answer wistorvan_resume(const uint32_t *sheet, size_t sheet_words, const uint32_t *piece, size_t piece_words,
+                                         uint32_t horizon, struct wistorvan_checkpoint *checkpoint, uint32_t *room,
+                                         size_t room_words);
 
 /* Makes a sheet from tables, in the first words of the room: words written and full cycle. Counts of streams and budgets have a
    word for each node, n is the length of the counts; periods, deadlines and jitters have a word for each stream, node by node.

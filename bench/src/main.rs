@@ -1,7 +1,7 @@
 //! Times the proved library beside the second program, both built for
 //! release, in one run: `bench admit`, `bench search`, `bench hardest`,
-//! `bench replay`, `bench write`, `bench budgets`. Each figure is the median of
-//! nine runs over the same inputs (`bench search` and `bench hardest` time the
+//! `bench replay`, `bench feed`, `bench write`, `bench budgets`. Each figure is
+//! the median of nine runs over the same inputs (`bench search` and `bench hardest` time the
 //! second program, which searches for J one by one, in one run); rooms are not
 //! cleared between runs. `bench slowest WHAT SECONDS SEED` looks for sheets on
 //! which the proved search is slow: WHAT is `stream`, `sheet` or `budgets`.
@@ -10,6 +10,7 @@
 
 mod budgets;
 mod command;
+mod feed;
 mod search;
 mod slowest;
 
@@ -191,31 +192,63 @@ fn periodic_log(periods: &[u32], horizon: u32) -> Vec<u32> {
         .collect()
 }
 
-/// Three streams: messages and their slots take nine tenths of the time.
-fn replay_loaded() {
-    let busy = sheet(5, 1, &[(1, vec![(25, 25), (40, 40)]), (2, vec![(12, 12)])]);
-    let horizon = 22_800;
-    let log = periodic_log(&[25, 40, 12], horizon);
-    replay_pair("a bus loaded to nine tenths", &busy, &log, horizon);
+/// What is replayed: a sheet, a log and a horizon.
+struct Traffic {
+    sheet: Vec<u32>,
+    log: Vec<u32>,
+    horizon: u32,
+}
+
+/// Three streams up to a horizon: messages and their slots take nine tenths of
+/// the time.
+fn loaded(horizon: u32) -> Traffic {
+    Traffic {
+        sheet: sheet(5, 1, &[(1, vec![(25, 25), (40, 40)]), (2, vec![(12, 12)])]),
+        log: periodic_log(&[25, 40, 12], horizon),
+        horizon,
+    }
 }
 
 /// A morning on a full line: sixteen nodes of four streams, whose messages and
 /// slots take two thirds of the time.
-fn replay_sixteen_nodes() {
+fn morning() -> Traffic {
     let periods: Vec<u32> = (0..64).map(|i| 404 + 6 * i).collect();
     let nodes: Vec<(u32, Vec<(u32, u32)>)> = periods
         .chunks(4)
         .map(|own| (2, own.iter().map(|&period| (period, period)).collect()))
         .collect();
-    let mut log = periodic_log(&periods, 40_000);
+    let log = periodic_log(&periods, 40_000);
+    first_releases(sheet(5, 1, &nodes), log)
+}
+
+/// The first 4,096 releases of a log, up to a horizon some time after the last.
+fn first_releases(sheet: Vec<u32>, mut log: Vec<u32>) -> Traffic {
     log.truncate(2 * 4096);
     let horizon = log[log.len() - 2] + 1_000;
-    replay_pair(
-        "a morning of 4,096 releases, sixteen nodes",
-        &sheet(5, 1, &nodes),
-        &log,
+    Traffic {
+        sheet,
+        log,
         horizon,
-    );
+    }
+}
+
+fn replay_loaded() {
+    let Traffic {
+        sheet,
+        log,
+        horizon,
+    } = loaded(22_800);
+    replay_pair("a bus loaded to nine tenths", &sheet, &log, horizon);
+}
+
+fn replay_sixteen_nodes() {
+    let Traffic {
+        sheet,
+        log,
+        horizon,
+    } = morning();
+    let what = "a morning of 4,096 releases, sixteen nodes";
+    replay_pair(what, &sheet, &log, horizon);
 }
 
 /// All releases come at tick 0: to many nodes, so that most looks at a release
@@ -373,7 +406,7 @@ fn look(asked: Option<&str>) -> bool {
 }
 
 fn usage() -> ExitCode {
-    eprintln!("usage: bench admit | search | hardest | replay | write | budgets");
+    eprintln!("usage: bench admit | search | hardest | replay | feed | write | budgets");
     eprintln!("       bench slowest stream|sheet|budgets SECONDS SEED");
     eprintln!("       bench command SECONDS SEED");
     ExitCode::from(2)
@@ -386,6 +419,7 @@ fn main() -> ExitCode {
         Some("search") => search::search(),
         Some("hardest") => search::hardest(),
         Some("replay") => replay(),
+        Some("feed") => feed::feed(),
         Some("write") => write(),
         Some("budgets") => budgets::budgets(),
         Some("command") => {

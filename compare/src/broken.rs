@@ -1,13 +1,16 @@
 //! The proved library against variants of the second program that make the
 //! errors listed in document 01, go by a wrong rank, write a sheet wrongly,
 //! start a search at a wrong place, judge by a wrong late test, jump wrongly in
-//! the search for J, search wrongly for budgets, or use the jitter wrongly. Each
-//! of them has to differ somewhere.
+//! the search for J, search wrongly for budgets, use the jitter wrongly, or
+//! replay pieces wrongly. Each of them has to differ somewhere.
 
 use peer::broken;
-use peer::generate::{budgets_case, case, tables_case, BudgetsCase, Case, TablesCase};
+use peer::generate::{budgets_case, case, made_up_case, pieces_case, tables_case};
+use peer::generate::{BudgetsCase, Case, Piece, PiecesCase, TablesCase};
+use peer::Checkpoint;
 
 use crate::budgets::{found_by_proved, found_by_second, Find};
+use crate::pieces::{resumed_by_proved, resumed_by_second, Resume};
 use crate::step::{stepped_by_proved, stepped_by_second, Step};
 use crate::tally::Outcome;
 use crate::writer::{written_by_proved, written_by_second, Writer};
@@ -19,9 +22,10 @@ enum Entry {
     Write(Writer),
     Step(Step),
     Find(Find),
+    Resume(Resume),
 }
 
-const VARIANTS: [(&str, Entry); 53] = [
+const VARIANTS: [(&str, Entry); 69] = [
     (
         "1, releases counted by ceiling",
         Entry::Admit(broken::admit_by_ceiling),
@@ -234,6 +238,70 @@ const VARIANTS: [(&str, Entry); 53] = [
         "53, a jump that takes jitters for whole releases",
         Entry::Admit(broken::admit_jumping_over_jitters),
     ),
+    (
+        "54, a tick at the new horizon taken",
+        Entry::Resume(broken::resume_to_the_horizon),
+    ),
+    (
+        "55, log order lost when places close up",
+        Entry::Resume(broken::resume_losing_order),
+    ),
+    (
+        "56, a place past the waiting left as it was",
+        Entry::Resume(broken::resume_leaving_stale),
+    ),
+    (
+        "57, releases numbered from 1 in each piece",
+        Entry::Resume(broken::resume_numbering_anew),
+    ),
+    (
+        "58, turns of the piece alone",
+        Entry::Resume(broken::resume_counting_anew),
+    ),
+    (
+        "59, refusal 12 only where places run out",
+        Entry::Resume(broken::resume_till_places_run_out),
+    ),
+    (
+        "60, refusal 6 by the messages begun",
+        Entry::Resume(broken::resume_in_a_short_room),
+    ),
+    (
+        "61, a record changed by refusal 12",
+        Entry::Resume(broken::resume_adding_before_refusal),
+    ),
+    (
+        "62, waiting ticks taken as due",
+        Entry::Resume(broken::resume_with_all_due),
+    ),
+    (
+        "63, refusal 9 before refusal 16",
+        Entry::Resume(broken::resume_record_after_log),
+    ),
+    (
+        "64, a place of refusal 9 in the whole log",
+        Entry::Resume(broken::resume_placing_in_the_log),
+    ),
+    (
+        "65, 4,096 releases in each piece",
+        Entry::Resume(broken::resume_counting_one_piece),
+    ),
+    (
+        "66, an unchanged horizon refused",
+        Entry::Resume(broken::resume_moving_on_only),
+    ),
+    (
+        "67, refusal 16 for waiting ticks that fall",
+        Entry::Resume(broken::resume_in_order_only),
+    ),
+    (
+        "68, refusal 16 for a stream past the waiting",
+        Entry::Resume(broken::resume_with_known_streams),
+    ),
+    (
+        "69, refusal 6 before refusal 12",
+        Entry::Resume(broken::resume_room_before_places),
+    ),
 ];
 
 /// A case of each kind.
@@ -241,6 +309,8 @@ struct Cases {
     case: Case,
     tables: TablesCase,
     budgets: BudgetsCase,
+    /// From a fresh record, and from a made-up one.
+    pieces: [PiecesCase; 2],
 }
 
 impl Cases {
@@ -249,8 +319,41 @@ impl Cases {
             case: case(seed, index),
             tables: tables_case(seed, index),
             budgets: budgets_case(seed, index),
+            pieces: [pieces_case(seed, index), made_up_case(seed, index)],
         }
     }
+}
+
+/// A piece of a case, the record before it and what the library gives.
+struct Resumed<'a> {
+    sheet: &'a [u32],
+    piece: &'a Piece,
+    before: Checkpoint,
+    given: Outcome,
+}
+
+/// Each piece of a case, from the record that the one before has led to.
+fn resumed(case: &PiecesCase) -> Vec<Resumed<'_>> {
+    let (mut record, sheet) = (case.record.clone(), &case.sheet[..]);
+    let each = case.pieces.iter().map(|piece| {
+        let given = resumed_by_proved(sheet, piece, &record);
+        let (_, after) = resumed_by_second(peer::resume, sheet, piece, &record);
+        Resumed {
+            sheet,
+            piece,
+            before: std::mem::replace(&mut record, after),
+            given,
+        }
+    });
+    each.collect()
+}
+
+/// The first piece on which a variant differs, each from the right record.
+fn resumed_otherwise(resume: Resume, resumed: &[Resumed]) -> Option<(Outcome, Outcome)> {
+    resumed.iter().find_map(|one| {
+        let (bad, _) = resumed_by_second(resume, one.sheet, one.piece, &one.before);
+        (one.given != bad).then(|| (one.given.clone(), bad))
+    })
 }
 
 /// For each variant, what the library and the variant give if they differ.
@@ -265,6 +368,7 @@ fn differences(cases: &Cases) -> [Option<(Outcome, Outcome)>; VARIANTS.len()] {
     let write = written_by_proved(tables, room);
     let step = stepped_by_proved(case);
     let find = found_by_proved(&cases.budgets);
+    let resumed: Vec<Resumed> = cases.pieces.iter().flat_map(resumed).collect();
     VARIANTS.each_ref().map(|(_, entry)| {
         let (good, bad) = match entry {
             Entry::Admit(entry) => (&admit, second(&case.room, |room| entry(sheet, room))),
@@ -275,6 +379,7 @@ fn differences(cases: &Cases) -> [Option<(Outcome, Outcome)>; VARIANTS.len()] {
             Entry::Write(entry) => (&write, written_by_second(*entry, tables, room)),
             Entry::Step(entry) => (&step, stepped_by_second(*entry, case)),
             Entry::Find(entry) => (&find, found_by_second(*entry, &cases.budgets)),
+            Entry::Resume(entry) => return resumed_otherwise(*entry, &resumed),
         };
         (*good != bad).then(|| (good.clone(), bad))
     })
@@ -316,5 +421,6 @@ pub fn one(seed: u64, index: u64) -> bool {
     println!("on {:?}", cases.case);
     println!("and {:?}", cases.tables);
     println!("and {:?}", cases.budgets);
+    println!("and {:?}", cases.pieces);
     found.iter().any(Option::is_some)
 }

@@ -5,6 +5,7 @@
 mod broken;
 mod budgets;
 mod far;
+mod pieces;
 mod programs;
 mod step;
 mod tally;
@@ -14,15 +15,17 @@ use std::io;
 use std::process::ExitCode;
 
 use budgets::compare_budgets;
-use peer::generate::{budgets_case, case, tables_case, BudgetsCase, Case, TablesCase};
-use peer::generate::{named, named_budgets, named_tables};
+use peer::generate::{budgets_case, case, made_up_case, pieces_case, tables_case};
+use peer::generate::{named, named_budgets, named_pieces, named_tables};
+use peer::generate::{BudgetsCase, Case, PiecesCase, TablesCase};
 use peer::read_tables;
 use peer::stats::{
     event_names, found_names, jitter_names, kinds_of_jitters, late_name, sheet_fault,
 };
+use pieces::compare_pieces;
 use programs::{Programs, CHANGES};
 use step::{compare_step, compare_steps};
-use tally::{jitters, searches, Outcome, Tally, EXPECTED, FAR};
+use tally::{expected_pieces, jitters, searches, Outcome, Tally, EXPECTED, FAR};
 use writer::{compare_tables, compare_written_again};
 
 const USAGE: &str =
@@ -31,6 +34,7 @@ const USAGE: &str =
        compare SEED INDEX named (one named case again, whatever the seed)
        compare SEED INDEX named tables (one of the named tables again)
        compare SEED INDEX named budgets (one of the named budgets again)
+       compare SEED INDEX named pieces (one of the named replays by pieces again)
        compare SEED COUNT broken (against the broken variants)
        compare SEED INDEX broken one (one case of each kind again, against those)
 ";
@@ -41,7 +45,7 @@ const PROGRAMS_EVERY: u64 = 100;
 const FAR_PROGRAMS: u64 = 400;
 
 /// So many generated cases must have all far numbers, all long searches, all
-/// kinds of rows and all kinds of jitters among them; fewer may leave them to
+/// kinds of rows, of jitters and of pieces among them; fewer may leave them to
 /// the named cases.
 const FAR_CASES: u64 = 5_000;
 
@@ -160,6 +164,8 @@ fn run_all(seed: u64, count: u64) -> io::Result<Tally> {
         let far = compare_case(&mut tally, &name, &case);
         compare_tables(&mut tally, &name, &tables_case(seed, index));
         compare_budgets(&mut tally, &name, &budgets_case(seed, index));
+        compare_pieces(&mut tally, &name, &pieces_case(seed, index));
+        compare_pieces(&mut tally, &name, &made_up_case(seed, index));
         if index % PROGRAMS_EVERY == 0 {
             let change = (index / PROGRAMS_EVERY) as usize % CHANGES.len();
             programs.compare(&mut tally, &name, &case, &CHANGES[change..=change])?;
@@ -173,6 +179,7 @@ fn run_all(seed: u64, count: u64) -> io::Result<Tally> {
         tally.expect(&FAR);
         tally.expect(&searches());
         tally.expect(&jitters());
+        tally.expect(&expected_pieces());
     }
     for (index, (name, case)) in named().iter().enumerate() {
         let name = format!("{name}: `compare {seed} {index} named`");
@@ -185,6 +192,10 @@ fn run_all(seed: u64, count: u64) -> io::Result<Tally> {
     for (index, (name, budgets)) in named_budgets().iter().enumerate() {
         let name = format!("{name}: `compare {seed} {index} named budgets`");
         compare_budgets(&mut tally, &name, budgets);
+    }
+    for (index, (name, pieces)) in named_pieces().iter().enumerate() {
+        let name = format!("{name}: `compare {seed} {index} named pieces`");
+        compare_pieces(&mut tally, &name, pieces);
     }
     tally.expect(&FAR);
     tally.expect(&searches());
@@ -199,24 +210,69 @@ fn run_one(programs: &Programs, tally: &mut Tally, name: &str, case: &Case) -> i
     programs.compare(tally, name, case, &CHANGES)
 }
 
-/// What is given again; whether all of it is as it should be.
-fn run_again(
-    name: &str,
-    case: Option<&Case>,
-    tables: Option<&TablesCase>,
-    budgets: Option<&BudgetsCase>,
-) -> io::Result<bool> {
-    let mut tally = Tally::default();
-    if let Some(case) = case {
-        run_one(&Programs::new()?, &mut tally, name, case)?;
+/// Cases to be run again, of the kinds that are given.
+#[derive(Default)]
+struct Again {
+    case: Option<Case>,
+    tables: Option<TablesCase>,
+    budgets: Option<BudgetsCase>,
+    pieces: Option<PiecesCase>,
+    made_up: Option<PiecesCase>,
+}
+
+impl Again {
+    /// A case of each kind.
+    fn all(seed: u64, index: u64) -> Again {
+        Again {
+            case: Some(case(seed, index)),
+            tables: Some(tables_case(seed, index)),
+            budgets: Some(budgets_case(seed, index)),
+            pieces: Some(pieces_case(seed, index)),
+            made_up: Some(made_up_case(seed, index)),
+        }
     }
-    if let Some(tables) = tables {
-        compare_tables(&mut tally, name, tables);
+
+    /// One of the named cases of a kind, with its name.
+    fn named(kind: &[&str], index: usize) -> Option<(&'static str, Again)> {
+        let mut again = Again::default();
+        let name = match kind {
+            [] => pick(named(), index, &mut again.case)?,
+            ["tables"] => pick(named_tables(), index, &mut again.tables)?,
+            ["budgets"] => pick(named_budgets(), index, &mut again.budgets)?,
+            ["pieces"] => pick(named_pieces(), index, &mut again.pieces)?,
+            _ => return None,
+        };
+        Some((name, again))
     }
-    if let Some(budgets) = budgets {
-        compare_budgets(&mut tally, name, budgets);
+
+    /// Whether all of it is as it should be.
+    fn run(&self, name: &str) -> io::Result<bool> {
+        let mut tally = Tally::default();
+        if let Some(case) = &self.case {
+            run_one(&Programs::new()?, &mut tally, name, case)?;
+        }
+        if let Some(tables) = &self.tables {
+            compare_tables(&mut tally, name, tables);
+        }
+        if let Some(budgets) = &self.budgets {
+            compare_budgets(&mut tally, name, budgets);
+        }
+        for pieces in [&self.pieces, &self.made_up].into_iter().flatten() {
+            compare_pieces(&mut tally, name, pieces);
+        }
+        Ok(tally.report())
     }
-    Ok(tally.report())
+}
+
+/// Puts one of some named cases into its place, and answers its name.
+fn pick<C>(
+    cases: Vec<(&'static str, C)>,
+    index: usize,
+    place: &mut Option<C>,
+) -> Option<&'static str> {
+    let (name, case) = cases.into_iter().nth(index)?;
+    *place = Some(case);
+    Some(name)
 }
 
 /// Whether all is as it should be, or None if the arguments make no sense.
@@ -224,24 +280,12 @@ fn run(arguments: &[&str]) -> Option<io::Result<bool>> {
     let seed: u64 = arguments.first()?.parse().ok()?;
     let number: u64 = arguments.get(1)?.parse().ok()?;
     let index = usize::try_from(number).ok()?;
-    Some(match arguments[2..] {
+    Some(match &arguments[2..] {
         [] => run_all(seed, number).map(|tally| tally.report()),
-        ["one"] => {
-            let (case, tables) = (case(seed, number), tables_case(seed, number));
-            let budgets = budgets_case(seed, number);
-            run_again("that case", Some(&case), Some(&tables), Some(&budgets))
-        }
-        ["named"] => {
-            let (name, case) = &named().into_iter().nth(index)?;
-            run_again(name, Some(case), None, None)
-        }
-        ["named", "tables"] => {
-            let (name, tables) = &named_tables().into_iter().nth(index)?;
-            run_again(name, None, Some(tables), None)
-        }
-        ["named", "budgets"] => {
-            let (name, budgets) = &named_budgets().into_iter().nth(index)?;
-            run_again(name, None, None, Some(budgets))
+        ["one"] => Again::all(seed, number).run("that case"),
+        ["named", kind @ ..] => {
+            let (name, again) = Again::named(kind, index)?;
+            again.run(name)
         }
         ["broken"] => Ok(broken::run(seed, number)),
         ["broken", "one"] => Ok(broken::one(seed, number)),

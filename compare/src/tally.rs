@@ -5,11 +5,13 @@ use std::fmt::Debug;
 
 use peer::stats::{EVENT_NAMES, IN_TIME_NAMES, JITTER_FAULTS, JITTER_NAMES, TOO_LATE_NAMES};
 use peer::stats::{FOUND_NAMES, LATE_NAMES, NO_ROW_NAMES, ROW_NAMES};
+use peer::stats::{HORIZON_FAULTS, JOINED_NAMES, PIECE_FAULTS, PIECE_NAMES, RECORD_FAULTS};
 
 use crate::far;
 
 /// An entry, the number it answered, and the kind of place, what was far, what
-/// the search for J or for budgets came to, or what a jitter was or did.
+/// the search for J or for budgets came to, what a jitter was or did, or what a
+/// piece, or pieces joined, had or came to.
 pub type Kind = (&'static str, u32, &'static str);
 
 /// The far numbers that a whole run must have met.
@@ -42,10 +44,6 @@ pub fn searches() -> Vec<Kind> {
 /// The kinds of jitters that a whole run must have met: in sheets and tables,
 /// right and wrong, in answers that they change, and in logs that they allow.
 pub fn jitters() -> Vec<Kind> {
-    let of = |entry: &'static str, number: u32, names: &[&'static str]| {
-        let kinds = names.iter().map(|&name| (entry, number, name));
-        kinds.collect::<Vec<Kind>>()
-    };
     [
         of("sheet", 0, &JITTER_NAMES),
         of("sheet", 5, &JITTER_FAULTS),
@@ -58,8 +56,27 @@ pub fn jitters() -> Vec<Kind> {
     .concat()
 }
 
+/// What a whole run must have met of pieces: what one that is carried out may be
+/// or do, what may be wrong with record, releases and horizon, and what pieces
+/// joined may come to.
+pub fn expected_pieces() -> Vec<Kind> {
+    [
+        of("resume", 0, &PIECE_NAMES),
+        of("resume", 9, &PIECE_FAULTS),
+        of("resume", 10, &HORIZON_FAULTS),
+        of("resume", 16, &RECORD_FAULTS),
+        of("pieces joined", 0, &JOINED_NAMES),
+    ]
+    .concat()
+}
+
+fn of(entry: &'static str, number: u32, names: &[&'static str]) -> Vec<Kind> {
+    let kinds = names.iter().map(|&name| (entry, number, name));
+    kinds.collect()
+}
+
 /// The answers that a whole run must have met.
-pub const EXPECTED: [Kind; 81] = [
+pub const EXPECTED: [Kind; 97] = [
     ("sheet", 0, "success"),
     ("sheet", 1, "0 0"),
     ("sheet", 2, "0 0"),
@@ -123,6 +140,22 @@ pub const EXPECTED: [Kind; 81] = [
     ("find budgets", 6, "0 0"),
     ("find budgets", 11, "node 0"),
     ("row admitted", 0, "success"),
+    ("resume", 0, "success"),
+    ("resume", 1, "0 0"),
+    ("resume", 2, "0 0"),
+    ("resume", 3, "0 0"),
+    ("resume", 4, "0 0"),
+    ("resume", 4, "node 0"),
+    ("resume", 5, "node stream"),
+    ("resume", 6, "0 0"),
+    ("resume", 9, "0 0"),
+    ("resume", 9, "0 and a number"),
+    ("resume", 10, "0 0"),
+    ("resume", 12, "0 0"),
+    ("resume", 16, "0 0"),
+    ("pieces joined", 0, "success"),
+    ("pieces joined", 0, "a release begun in a later piece"),
+    ("pieces joined", 0, "a release left waiting"),
     ("admit program", 0, "success"),
     ("admit program", 1, "0 0"),
     ("admit program", 2, "0 0"),
@@ -166,6 +199,7 @@ pub struct Tally {
     cases: u64,
     tables: u64,
     budgets: u64,
+    pieces: u64,
     differences: u64,
     answers: BTreeMap<Kind, u64>,
     missing: BTreeSet<Kind>,
@@ -184,7 +218,12 @@ impl Tally {
         self.budgets += 1;
     }
 
-    /// Counts one answer, and says where the two programs differ.
+    pub fn new_pieces(&mut self) {
+        self.pieces += 1;
+    }
+
+    /// Counts one answer, and says where the two programs differ; answers whether
+    /// they agree.
     pub fn compare<Left: PartialEq + Debug>(
         &mut self,
         entry: &'static str,
@@ -192,7 +231,7 @@ impl Tally {
         case: &dyn Debug,
         proved: &Outcome<Left>,
         second: &Outcome<Left>,
-    ) {
+    ) -> bool {
         let kind = (entry, second.answer.0, place(second.answer));
         *self.answers.entry(kind).or_default() += 1;
         if proved != second {
@@ -202,6 +241,7 @@ impl Tally {
             println!("  second program {second:?}");
             println!("  on {case:?}");
         }
+        proved == second
     }
 
     /// Counts what was far in a success; answers whether anything was.
@@ -213,7 +253,7 @@ impl Tally {
     }
 
     /// Counts what is known by name of an answer with this number: what the
-    /// search behind it came to, or what a jitter was or did.
+    /// search behind it came to, what a jitter was or did, or what a piece had.
     pub fn named(
         &mut self,
         entry: &'static str,
@@ -237,6 +277,7 @@ impl Tally {
         println!("cases {}", self.cases);
         println!("tables {}", self.tables);
         println!("budgets {}", self.budgets);
+        println!("replays by pieces {}", self.pieces);
         for ((entry, number, place), times) in &self.answers {
             println!("{entry} {number} ({place}) {times}");
         }

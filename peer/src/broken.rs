@@ -1,14 +1,15 @@
 //! The five errors that document 01 has seen in fitters' sheets, three wrong
 //! ranks, eight wrong writers, two wrong starting places, four wrong late tests,
-//! five wrong jumps, ten wrong searches for budgets and thirteen wrong uses of
-//! the jitter, each made on purpose, so that a comparison can show that it
-//! catches them. All else is as in the good program, but for the search that the
-//! wrong jumps are made in.
+//! five wrong jumps, ten wrong searches for budgets, thirteen wrong uses of the
+//! jitter and sixteen wrong replays by pieces, each made on purpose, so that a
+//! comparison can show that it catches them. All else is as in the good program,
+//! but for the search that the wrong jumps are made in.
 
 mod budgets;
 mod delivery;
 mod jitter;
 mod jumps;
+mod pieces;
 mod start;
 mod writer;
 
@@ -36,6 +37,13 @@ pub use jitter::{
 pub use jumps::{
     admit_counting_fast_twice, admit_jumping_over_jitters, admit_jumping_too_far,
     admit_rounding_rates_up, admit_with_every_place_taken, one_stream_jumping,
+};
+pub use pieces::{
+    resume_adding_before_refusal, resume_counting_anew, resume_counting_one_piece,
+    resume_in_a_short_room, resume_in_order_only, resume_leaving_stale, resume_losing_order,
+    resume_moving_on_only, resume_numbering_anew, resume_placing_in_the_log,
+    resume_record_after_log, resume_room_before_places, resume_till_places_run_out,
+    resume_to_the_horizon, resume_with_all_due, resume_with_known_streams,
 };
 pub use start::{replay_starting_late, step_after_last_begun};
 pub use writer::{

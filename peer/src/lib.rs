@@ -1,11 +1,12 @@
 //! The independent second program: written from document 01 and, for the rank,
-//! the writer, the late test, the budgets and the jitter, requests One, Two,
-//! Four, Five and Six of document 02 alone, so that the proved program can be
-//! compared with it. It shares no code with that program, and keeps other
-//! accounts: running remainders in the search for J, one queue a stream in the
-//! replay, a sheet put together apart from the room in the writer, budgets
-//! raised node by node. J is tried one by one from 1 up, as far as the deadline
-//! allows: a search that leaves some out is measured against that.
+//! the writer, the late test, the budgets, the jitter and the pieces, requests
+//! One, Two, Four, Five, Six and Seven of document 02 alone, so that the proved
+//! program can be compared with it. It shares no code with that program, and
+//! keeps other accounts: running remainders in the search for J, one queue a
+//! stream in the replay, two heaps a node in the replay by pieces, a sheet put
+//! together apart from the room in the writer, budgets raised node by node. J is
+//! tried one by one from 1 up, as far as the deadline allows: a search that
+//! leaves some out is measured against that.
 //!
 //! Every entry is total: whatever is handed in gets an answer, and a refusal
 //! changes no lent word.
@@ -16,6 +17,7 @@ mod budgets;
 pub mod events;
 pub mod generate;
 mod log;
+mod pieces;
 mod replay;
 mod sheet;
 pub mod stats;
@@ -25,6 +27,7 @@ mod writer;
 
 pub use admission::{admit, one_stream};
 pub use budgets::{find_budgets, find_budgets_by_rounds};
+pub use pieces::{resume, Checkpoint, Lent, Place, CHECKPOINT_WORDS, MOST_WAITING};
 pub use replay::replay;
 pub use sheet::check_sheet;
 pub use step::step;
@@ -50,7 +53,8 @@ pub struct Record {
 }
 
 /// Every number that is answered fits 32 bits: ticks stay below 10^9 + 170,000
-/// and listed waits, cycles and turns below that.
+/// and listed waits, cycles and turns below that, the turns of a made-up record
+/// and of a piece together at 2 × 10^9.
 pub(crate) fn success(second: u64, third: u64) -> Answer {
     Answer {
         number: 0,

@@ -4,6 +4,7 @@
 mod budgets;
 mod edges;
 mod jitter;
+mod pieces;
 mod rank;
 mod search;
 mod tables;
@@ -22,6 +23,8 @@ use search::{count_found, count_late};
 pub use budgets::{gather_budgets, no_row_names, round_count, row_names, NO_ROW_NAMES, ROW_NAMES};
 pub use jitter::{event_names, jitter_names, kinds_of_jitters};
 pub use jitter::{EVENT_NAMES, IN_TIME_NAMES, JITTER_NAMES, TOO_LATE_NAMES};
+pub use pieces::{gather_pieces, joined_names, Resumed};
+pub use pieces::{HORIZON_FAULTS, JOINED_NAMES, PIECE_FAULTS, PIECE_NAMES, RECORD_FAULTS};
 pub use search::{found_names, late_name, FOUND_NAMES, LATE_NAMES};
 pub use tables::{gather_tables, tables_fault};
 

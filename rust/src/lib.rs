@@ -23,7 +23,8 @@
 //! Sheets and logs are tables of words, laid out as the repository's README
 //! says; [`write_sheet`] makes a sheet, so that nobody has to lay one out by
 //! hand, and [`find_budgets`] finds the smallest budgets with which no stream
-//! is late. Every function takes any tables: what is wrong with them comes back
+//! is late. A log that is still being written is replayed piece by piece with
+//! [`resume`]. Every function takes any tables: what is wrong with them comes back
 //! as a [`Refusal`] with a [`Reason`], a place and a sentence, and then no lent
 //! word has changed. Of all refusals that apply, the first in the order that
 //! stands at each function is given. [`raw`] has the same functions with the
@@ -100,6 +101,28 @@ pub const MAX_RELEASES: usize = 4096;
 /// ```
 pub const LONGEST_SHEET: usize = 819;
 
+/// The most messages that wait and come in one piece: a room of twice so many
+/// words is long enough for [`resume`].
+///
+/// ```
+/// use wistorvan::{resume, Checkpoint, MAX_WAITING};
+///
+/// let (mut checkpoint, mut room) = (Checkpoint::fresh(), [0; 2 * MAX_WAITING]);
+/// let sheet = [1, 5, 1, 6, 1, 1, 20, 20, 0];
+/// let most = [0, 1].repeat(MAX_WAITING);
+/// assert!(resume(&sheet, &most, 4, &mut checkpoint, &mut room).is_ok());
+/// ```
+pub const MAX_WAITING: usize = 256;
+
+/// The words of a [`Checkpoint`].
+///
+/// ```
+/// use wistorvan::{Checkpoint, CHECKPOINT_WORDS};
+///
+/// assert_eq!(size_of::<Checkpoint>(), CHECKPOINT_WORDS * size_of::<u32>());
+/// ```
+pub const CHECKPOINT_WORDS: usize = 6 + 3 * MAX_WAITING;
+
 /// The begin tick that a word of a room stands for, if the release has begun.
 ///
 /// ```
@@ -145,6 +168,80 @@ impl Bus {
         node: 1,
         turns: 0,
     };
+}
+
+/// A replay between two pieces of its log.
+///
+/// The releases that wait stand in log order from place 0: the number of each in
+/// the whole log, from 1, its tick and the running number of its stream. After a
+/// piece every place past them is 0.
+///
+/// ```
+/// use wistorvan::{resume, Checkpoint};
+///
+/// # fn main() -> Result<(), wistorvan::Refusal> {
+/// // Two messages come at once; the second waits for the next turn.
+/// let mut checkpoint = Checkpoint::fresh();
+/// resume(&[1, 5, 1, 6, 1, 1, 20, 20, 0], &[0, 1, 0, 1], 1, &mut checkpoint, &mut [0; 4])?;
+/// assert_eq!((checkpoint.tick, checkpoint.turns), (6, 1));
+/// let waiting = checkpoint.waiting as usize;
+/// assert_eq!(checkpoint.numbers[..waiting], [2]);
+/// # Ok(())
+/// # }
+/// ```
+#[repr(C)]
+#[derive(Clone, PartialEq, Eq, Hash, Debug)]
+pub struct Checkpoint {
+    /// The horizon of the last piece.
+    pub horizon: u32,
+    /// The tick at which the next turn starts.
+    pub tick: u32,
+    /// The node whose turn it is, from 1.
+    pub node: u32,
+    /// How many turns have gone before it, in all pieces.
+    pub turns: u32,
+    /// How many releases all pieces had.
+    pub releases: u32,
+    /// How many releases wait: so many places are in use.
+    pub waiting: u32,
+    /// The number of each release that waits.
+    pub numbers: [u32; MAX_WAITING],
+    /// The tick of each release that waits.
+    pub ticks: [u32; MAX_WAITING],
+    /// The stream of each release that waits.
+    pub streams: [u32; MAX_WAITING],
+}
+
+impl Checkpoint {
+    /// Before the first piece: horizon 0, the first turn that of node 1 at tick
+    /// 0, and nothing waits.
+    ///
+    /// ```
+    /// let checkpoint = wistorvan::Checkpoint::fresh();
+    /// assert_eq!((checkpoint.horizon, checkpoint.node, checkpoint.waiting), (0, 1, 0));
+    /// assert_eq!(checkpoint, wistorvan::Checkpoint::default());
+    /// ```
+    #[must_use]
+    pub const fn fresh() -> Checkpoint {
+        Checkpoint {
+            horizon: 0,
+            tick: 0,
+            node: 1,
+            turns: 0,
+            releases: 0,
+            waiting: 0,
+            numbers: [0; MAX_WAITING],
+            ticks: [0; MAX_WAITING],
+            streams: [0; MAX_WAITING],
+        }
+    }
+}
+
+/// The fresh one.
+impl Default for Checkpoint {
+    fn default() -> Checkpoint {
+        Checkpoint::fresh()
+    }
 }
 
 /// What a sheet is made from: the bus and its nodes and streams, in tables.
@@ -261,6 +358,45 @@ pub struct Step {
     pub taken: u32,
     /// The tick at which the next turn starts.
     pub next: u32,
+}
+
+/// What [`resume`] answers.
+///
+/// ```
+/// use wistorvan::{resume, Checkpoint};
+///
+/// // Two releases, at ticks 2 and 3: the second one waits for a turn.
+/// let (mut checkpoint, mut room) = (Checkpoint::fresh(), [0; 4]);
+/// let piece = [2, 1, 3, 1];
+/// let resumed = resume(&[1, 5, 1, 6, 1, 1, 20, 20, 0], &piece, 9, &mut checkpoint, &mut room).unwrap();
+/// assert_eq!((resumed.words, resumed.turns), (&[1, 2, 2, 8][..], 4));
+/// assert_eq!(resumed.begun().collect::<Vec<_>>(), [(1, 2), (2, 8)]);
+/// ```
+#[derive(Clone, Copy, PartialEq, Eq, Hash, Debug)]
+pub struct Resumed<'r> {
+    /// Two words for each message begun in this piece, in the order begun: the
+    /// number of its release in the whole log, from 1, and its begin tick. The
+    /// first words of the lent room.
+    pub words: &'r [u32],
+    /// How many turns started so far, in all pieces.
+    pub turns: u32,
+}
+
+impl<'r> Resumed<'r> {
+    /// The messages begun in this piece, in the order begun: the number of the
+    /// release in the whole log, and the begin tick.
+    ///
+    /// ```
+    /// use wistorvan::{resume, Checkpoint};
+    ///
+    /// let (mut checkpoint, mut room) = (Checkpoint::fresh(), [0; 2]);
+    /// let sheet = [1, 5, 1, 6, 1, 1, 20, 20, 0];
+    /// let resumed = resume(&sheet, &[2, 1], 9, &mut checkpoint, &mut room).unwrap();
+    /// assert!(resumed.begun().eq([(1, 2)]));
+    /// ```
+    pub fn begun(&self) -> impl Iterator<Item = (u32, u32)> + 'r {
+        self.words.chunks_exact(2).map(|pair| (pair[0], pair[1]))
+    }
 }
 
 /// What [`write_sheet`] answers.
@@ -449,6 +585,60 @@ pub fn replay<'r>(
 pub fn step(sheet: &[u32], log: &[u32], bus: &mut Bus, room: &mut [u32]) -> Result<Step, Refusal> {
     let (taken, next) = raw::step(sheet, log, bus, room).accepted()?;
     Ok(Step { taken, next })
+}
+
+/// Replays the next piece of a log, from where the checkpoint stands up to a new
+/// horizon, and sets the checkpoint to its end. A piece has two words a release,
+/// like a log, with ticks from the checkpoint's horizon up to below the new one;
+/// the horizon may also stay as it is. The messages begun in this piece go to
+/// the room's first words, the rest of which stays; two words for each message
+/// that waits and each release of the piece are enough, and so are twice
+/// [`MAX_WAITING`] words.
+///
+/// From [`Checkpoint::fresh`], with one sheet and however a log is cut, the
+/// pieces give each release the begin that [`replay`] gives the whole log at
+/// the last horizon, and the same turns. A checkpoint that was made up is taken
+/// as it stands, if it is not refused.
+///
+/// # Errors
+///
+/// In this order: those of [`check_sheet`], [`Reason::BadBus`],
+/// [`Reason::BadLog`], [`Reason::HorizonTooLarge`],
+/// [`Reason::TooManyWaiting`], [`Reason::RoomTooShort`].
+///
+/// ```
+/// use wistorvan::{resume, Checkpoint, Reason, MAX_WAITING};
+///
+/// # fn main() -> Result<(), wistorvan::Refusal> {
+/// let sheet = [2, 5, 1, 9, 2, 1, 15, 1, 2, 40, 40, 0, 60, 60, 0, 30, 30, 0];
+/// let (mut checkpoint, mut room) = (Checkpoint::fresh(), [0; 2 * MAX_WAITING]);
+///
+/// // Release 1 begins at tick 0; release 2 waits for the node's next turn.
+/// let first = resume(&sheet, &[0, 1, 0, 2], 1, &mut checkpoint, &mut room)?;
+/// assert!(first.begun().eq([(1, 0)]));
+/// assert_eq!((checkpoint.tick, checkpoint.waiting), (6, 1));
+/// let second = resume(&sheet, &[1, 3], 40, &mut checkpoint, &mut room)?;
+/// assert!(second.begun().eq([(3, 6), (2, 12)]));
+/// assert_eq!((second.turns, checkpoint.tick), (25, 40));
+///
+/// // The tick is below the horizon of the piece before.
+/// let refusal = resume(&sheet, &[39, 1], 50, &mut checkpoint, &mut room).unwrap_err();
+/// assert_eq!((refusal.reason(), refusal.place()), (Reason::BadLog, (0, 1)));
+/// # Ok(())
+/// # }
+/// ```
+pub fn resume<'r>(
+    sheet: &[u32],
+    piece: &[u32],
+    horizon: u32,
+    checkpoint: &mut Checkpoint,
+    room: &'r mut [u32],
+) -> Result<Resumed<'r>, Refusal> {
+    let (begun, turns) = raw::resume(sheet, piece, horizon, checkpoint, room).accepted()?;
+    Ok(Resumed {
+        words: &room[..2 * begun as usize],
+        turns,
+    })
 }
 
 /// Makes a sheet from tables. It goes to the room's first words, the rest of

@@ -4,12 +4,13 @@
 //! arguments.
 //!
 //! What this boundary assumes: that a lent table passes as a pointer to its
-//! words and then their number, and that an answer comes back as three 32-bit
-//! words in C's layout. No compiler holds the declarations here to the Rattle
+//! words and then their number, a record, or a table whose length is fixed, as
+//! one pointer, and that an answer comes back as three 32-bit words in C's
+//! layout. No compiler holds the declarations here to the Rattle
 //! source; tests/declarations.rs compares their text with it. The library asks
 //! nothing of its caller, so there is nothing to test before a call.
 
-use crate::{Bus, Refusal, Tables};
+use crate::{Bus, Checkpoint, Refusal, Tables};
 
 /// Three numbers. Number 0 is success; any other is a refusal, and the two
 /// after it are its place.
@@ -42,7 +43,7 @@ impl Answer {
 }
 
 mod linked {
-    use super::{Answer, Bus};
+    use super::{Answer, Bus, Checkpoint};
 
     extern "C" {
         pub fn wistorvan_check_sheet(sheet: *const u32, sheet_words: usize) -> Answer;
@@ -73,6 +74,16 @@ mod linked {
             log: *const u32,
             log_words: usize,
             bus: *mut Bus,
+            room: *mut u32,
+            room_words: usize,
+        ) -> Answer;
+        pub fn wistorvan_resume(
+            sheet: *const u32,
+            sheet_words: usize,
+            piece: *const u32,
+            piece_words: usize,
+            horizon: u32,
+            checkpoint: *mut Checkpoint,
             room: *mut u32,
             room_words: usize,
         ) -> Answer;
@@ -184,6 +195,39 @@ pub fn step(sheet: &[u32], log: &[u32], bus: &mut Bus, room: &mut [u32]) -> Answ
             log.as_ptr(),
             log.len(),
             bus,
+            room.as_mut_ptr(),
+            room.len(),
+        )
+    }
+}
+
+/// [`crate::resume`]: the messages begun in the piece and the turns so far;
+/// number and begin tick of each message begun in the room's first words.
+///
+/// ```
+/// use wistorvan::{raw, Checkpoint};
+///
+/// let (mut checkpoint, mut room) = (Checkpoint::fresh(), [7; 3]);
+/// let answer = raw::resume(&[1, 5, 1, 6, 1, 1, 20, 20, 0], &[2, 1], 4, &mut checkpoint, &mut room);
+/// assert_eq!((answer.number, answer.second, answer.third), (0, 1, 3));
+/// assert_eq!((room, checkpoint.tick, checkpoint.waiting), ([1, 2, 7], 8, 0));
+/// ```
+#[must_use]
+pub fn resume(
+    sheet: &[u32],
+    piece: &[u32],
+    horizon: u32,
+    checkpoint: &mut Checkpoint,
+    room: &mut [u32],
+) -> Answer {
+    unsafe {
+        linked::wistorvan_resume(
+            sheet.as_ptr(),
+            sheet.len(),
+            piece.as_ptr(),
+            piece.len(),
+            horizon,
+            checkpoint,
             room.as_mut_ptr(),
             room.len(),
         )

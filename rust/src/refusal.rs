@@ -5,7 +5,7 @@ use std::fmt;
 
 /// What is refused. The names are those of the header for C.
 ///
-/// Later versions will name more numbers (12 to 15 are kept for them), so a
+/// Later versions will name more numbers (13 to 15 are kept for them), so a
 /// `match` needs an arm for the rest.
 ///
 /// ```
@@ -42,8 +42,10 @@ pub enum Reason {
     /// sheet), first in sheet order. Place node, stream.
     BadStream,
     /// 6: the room is shorter than one word a stream (admit) or a release
-    /// (replay, step), than the sheet (write sheet), or than sixteen words,
-    /// however few the nodes are (find budgets). Place 0, 0.
+    /// (replay, step), than the sheet (write sheet), than sixteen words,
+    /// however few the nodes are (find budgets), or than two words for each
+    /// message that waits and each release of the piece, begun or not (resume).
+    /// Place 0, 0.
     RoomTooShort,
     /// 7: a stream is late: a message of it could be delivered after its
     /// deadline, which runs from its event, jitter ticks before its queuing at
@@ -52,19 +54,27 @@ pub enum Reason {
     Late,
     /// 8: the sheet has no such stream. Place node, stream as asked.
     NoSuchStream,
-    /// 9: the log. First, its length is odd, then, it has more than 4,096
-    /// releases: place 0, 0. Then, the first release with a tick over
-    /// 1,000,000,000, a tick below the one before or an unknown stream: place
-    /// 0, release from 1.
+    /// 9: the log, or a piece of it (resume). First, its length is odd, then, it
+    /// has more than 4,096 releases, with those of all pieces before: place
+    /// 0, 0. Then, the first release with a tick over 1,000,000,000, a tick
+    /// below the one before, a tick below the checkpoint's horizon or not below
+    /// the new one (resume) or an unknown stream: place 0, release from 1, which
+    /// counts within the piece.
     BadLog,
-    /// 10: the horizon is over 1,000,000,000. Place 0, 0.
+    /// 10: the horizon is over 1,000,000,000, or below the checkpoint's
+    /// (resume). Place 0, 0.
     HorizonTooLarge,
     /// 11: no budgets of 1 to 16 make every stream in time. The node has a
     /// late stream and 16 already, in the earliest round with such a node, and
     /// is the first of them. Place node, 0.
     NoBudgets,
-    /// 16: the record's tick or turns are over 1,000,000,000, or its node is
-    /// not 1 to n. Place 0, 0.
+    /// 12: the messages that wait and the releases of the piece are more than
+    /// 256 together, whatever could begin between (resume). Place 0, 0.
+    TooManyWaiting,
+    /// 16: the tick or the turns of the bus or the checkpoint are over
+    /// 1,000,000,000, or its node is not 1 to n; or the checkpoint has more than
+    /// 256 waiting, more than 4,096 releases so far, or an unknown stream that
+    /// waits. Place 0, 0.
     BadBus,
     /// A number that this version has no name for: see [`Refusal::number`].
     Unnamed,
@@ -73,7 +83,7 @@ pub enum Reason {
 /// A refusal: its number, its place, and as text a sentence that has both.
 ///
 /// Nothing is changed by an entry that refuses: no word of a room and no
-/// field of a bus record.
+/// field of a bus record or a checkpoint.
 ///
 /// ```
 /// use wistorvan::{admit, Reason};
@@ -97,7 +107,7 @@ impl Refusal {
         Refusal { number, place }
     }
 
-    /// The number: 1 to 11 or 16, or one that a later library has.
+    /// The number: 1 to 12 or 16, or one that a later library has.
     ///
     /// ```
     /// assert_eq!(wistorvan::check_sheet(&[]).unwrap_err().number(), 1);
@@ -140,6 +150,7 @@ impl Refusal {
             9 => Reason::BadLog,
             10 => Reason::HorizonTooLarge,
             11 => Reason::NoBudgets,
+            12 => Reason::TooManyWaiting,
             16 => Reason::BadBus,
             _ => Reason::Unnamed,
         }
@@ -166,12 +177,23 @@ impl Refusal {
             Reason::NoSuchStream => write!(f, "the sheet has no stream {b} of node {a}"),
             Reason::BadLog if b == 0 => write!(f, "the log's length is odd or over 4,096 releases"),
             Reason::BadLog => write!(f, "release {b}: wrong tick or unknown stream"),
-            Reason::HorizonTooLarge => write!(f, "the horizon is over 1,000,000,000"),
+            Reason::HorizonTooLarge => {
+                write!(
+                    f,
+                    "the horizon is over 1,000,000,000 or below the checkpoint's"
+                )
+            }
             Reason::NoBudgets => write!(
                 f,
                 "no budgets of 1 to 16 work: node {a} is late even with 16"
             ),
-            Reason::BadBus => write!(f, "the record's tick, node or turns are out of range"),
+            Reason::TooManyWaiting => {
+                write!(f, "the waiting and the piece's releases are more than 256")
+            }
+            Reason::BadBus => write!(
+                f,
+                "the record's tick, node, turns, releases or waiting are out of range"
+            ),
             Reason::Unnamed => write!(f, "this version has no name for the number"),
         }
     }
@@ -225,18 +247,18 @@ mod tests {
             .filter(|(reason, _)| *reason != Reason::Unnamed)
             .map(|(reason, number)| (name_in_c(reason), number))
             .collect();
-        assert_eq!(named.len(), 12);
+        assert_eq!(named.len(), 13);
         assert_eq!(named, named_in_header());
     }
 
     #[test]
     fn a_number_without_a_name_is_still_told() {
-        let later = Refusal::new(12, (3, 4));
-        assert_eq!((later.number(), later.place()), (12, (3, 4)));
+        let later = Refusal::new(13, (3, 4));
+        assert_eq!((later.number(), later.place()), (13, (3, 4)));
         assert_eq!(later.reason(), Reason::Unnamed);
         assert_eq!(
             later.to_string(),
-            "refused 12 at 3 4: this version has no name for the number"
+            "refused 13 at 3 4: this version has no name for the number"
         );
     }
 }

@@ -4,9 +4,14 @@
 //! that goes by its names is then wrong.
 
 use std::fs;
+use std::mem::offset_of;
 use std::path::Path;
 
-use wistorvan::{LONGEST_SHEET, MAX_NODES, MAX_RELEASES, MAX_STREAMS, NOT_BEGUN};
+use wistorvan::{Checkpoint, MAX_WAITING, NOT_BEGUN};
+use wistorvan::{CHECKPOINT_WORDS, LONGEST_SHEET, MAX_NODES, MAX_RELEASES, MAX_STREAMS};
+
+/// The checkpoint in the Rattle source: a table of its words.
+const CHECKPOINT: &str = "&mut [u32; 774]";
 
 /// A file of the repository.
 fn text(name: &str) -> String {
@@ -76,6 +81,8 @@ fn in_c(entry: &Entry) -> String {
             "&[u32]" => format!("const uint32_t *{name}, size_t {name}_words"),
             "&mut [u32]" => format!("uint32_t *{name}, size_t {name}_words"),
             "&mut Bus" => format!("struct wistorvan_bus *{name}"),
+            // A table of a fixed length passes as one pointer.
+            CHECKPOINT => format!("struct wistorvan_checkpoint *{name}"),
             _ => panic!("{kind} has no form in C yet"),
         });
     let arguments = arguments.collect::<Vec<_>>().join(", ");
@@ -91,6 +98,7 @@ fn in_rust(entry: &Entry) -> String {
             "&[u32]" => format!("{name}: *const u32, {name}_words: usize"),
             "&mut [u32]" => format!("{name}: *mut u32, {name}_words: usize"),
             "&mut Bus" => format!("{name}: *mut Bus"),
+            CHECKPOINT => format!("{name}: *mut Checkpoint"),
             _ => panic!("{kind} has no form in Rust yet"),
         });
     let arguments = arguments.collect::<Vec<_>>().join(", ");
@@ -103,8 +111,53 @@ fn sorted(mut declarations: Vec<String>) -> Vec<String> {
 }
 
 #[test]
-fn seven_entries() {
-    assert_eq!(entries().len(), 7);
+fn eight_entries() {
+    assert_eq!(entries().len(), 8);
+}
+
+/// Six words and then three tables, in this order and with nothing between, as
+/// the library reads and writes them.
+#[test]
+fn the_words_of_a_checkpoint() {
+    assert_eq!(CHECKPOINT, format!("&mut [u32; {CHECKPOINT_WORDS}]"));
+    assert_eq!(size_of::<Checkpoint>(), 4 * CHECKPOINT_WORDS);
+    let places = [
+        offset_of!(Checkpoint, horizon),
+        offset_of!(Checkpoint, tick),
+        offset_of!(Checkpoint, node),
+        offset_of!(Checkpoint, turns),
+        offset_of!(Checkpoint, releases),
+        offset_of!(Checkpoint, waiting),
+        offset_of!(Checkpoint, numbers),
+        offset_of!(Checkpoint, ticks),
+        offset_of!(Checkpoint, streams),
+    ];
+    assert_eq!(
+        places.map(|place| place / 4),
+        [0, 1, 2, 3, 4, 5, 6, 262, 518]
+    );
+}
+
+/// The fields of a struct, in order, with their C types.
+fn fields_in_c(name: &str) -> Vec<String> {
+    let header = source("include/wistorvan.h");
+    let (_, rest) = header.split_once(&format!("struct {name} {{")).expect(name);
+    let (fields, _) = rest.split_once('}').expect("it ends");
+    let fields = fields.split(';').map(str::trim);
+    fields
+        .filter(|field| !field.is_empty())
+        .map(str::to_string)
+        .collect()
+}
+
+#[test]
+fn the_checkpoint_of_the_header() {
+    let numbers = ["horizon", "tick", "node", "turns", "releases", "waiting"];
+    let tables = ["numbers", "ticks", "streams"];
+    let numbers = numbers.map(|name| format!("uint32_t {name}"));
+    let tables = tables.map(|name| format!("uint32_t {name}[WISTORVAN_MAX_WAITING]"));
+    let expected = [&numbers[..], &tables].concat();
+    assert_eq!(fields_in_c("wistorvan_checkpoint"), expected);
 }
 
 #[test]
@@ -149,6 +202,9 @@ fn the_header_has_the_same_limits() {
         format!("MAX_STREAMS {MAX_STREAMS}"),
         format!("MAX_RELEASES {MAX_RELEASES}"),
         format!("LONGEST_SHEET {LONGEST_SHEET}"),
+        format!("MAX_WAITING {MAX_WAITING}"),
+        format!("CHECKPOINT_WORDS {CHECKPOINT_WORDS}"),
+        "FRESH_CHECKPOINT {0, 0, 1, 0, 0, 0, {0}, {0}, {0}}".to_string(),
     ];
     assert_eq!(defined, expected);
 }

@@ -3,8 +3,9 @@
 
 use std::error::Error;
 
-use wistorvan::{admit, check_sheet, find_budgets, one_stream, raw, replay, step, write_sheet};
-use wistorvan::{Budgets, Bus, ListedWait, Reason, Refusal, Step, Tables, Written};
+use wistorvan::{admit, check_sheet, find_budgets, one_stream, raw, replay, resume, step};
+use wistorvan::{write_sheet, Budgets, Bus, Checkpoint, ListedWait, Reason, Refusal, Step};
+use wistorvan::{Tables, Written};
 use wistorvan::{LONGEST_SHEET, MAX_NODES, MAX_RELEASES, MAX_STREAMS, NOT_BEGUN};
 
 const SHEET_A: [u32; 18] = [2, 5, 1, 9, 2, 1, 15, 1, 2, 40, 40, 0, 60, 60, 0, 30, 30, 0];
@@ -237,6 +238,12 @@ fn sheet_refusal(sheet: &[u32]) -> Refusal {
     assert_eq!(replay(sheet, &[1], TOO_LARGE, &mut []), Err(refusal));
     assert_eq!(step(sheet, &[1], &mut bus, &mut []), Err(refusal));
     assert_eq!(find_budgets(sheet, &mut []), Err(refusal));
+    let mut checkpoint = Checkpoint {
+        node: 0,
+        ..Checkpoint::fresh()
+    };
+    let resumed = resume(sheet, &[1], TOO_LARGE, &mut checkpoint, &mut []);
+    assert_eq!(resumed, Err(refusal));
     refusal
 }
 
@@ -429,13 +436,13 @@ fn refusals_of_a_log() {
 #[test]
 fn a_horizon_too_large() {
     let refusal = replay(&SHEET_A, &LOG, TOO_LARGE, &mut []).unwrap_err();
-    let why = "the horizon is over 1,000,000,000";
+    let why = "the horizon is over 1,000,000,000 or below the checkpoint's";
     assert_refusal(refusal, Reason::HorizonTooLarge, 10, (0, 0), why);
 }
 
 #[test]
 fn a_record_off_the_bus() {
-    let why = "the record's tick, node or turns are out of range";
+    let why = "the record's tick, node, turns, releases or waiting are out of range";
     let at = |tick, node, turns| Bus { tick, node, turns };
     for record in [
         at(TOO_LARGE, 1, 0),

@@ -10,9 +10,9 @@ use native.Mathlib.Omega.{arith}
 use lib.ListN.{length, take, drop, replicate, take-append-drop}
 use lib.Seq.{getD-take}
 use Rattle.model.specs.declared.Bus.{Bus}
-use Rattle.model.specs.Limits.{notBegun}
+use Rattle.model.specs.Limits.{maxTime, notBegun}
 use Rattle.model.specs.Sheet.{word, slotTicks, budget, Valid}
-use Rattle.model.specs.Protocol.{releases, serveTurn, nextBus, State, turn, start, run, replayed}
+use Rattle.model.specs.Protocol.{releases, serveTurn, nextBus, State, turn, noneBegun, firstTurn, start, run, replayed}
 use Rattle.model.proofs.Sheet.ValidSheet.{valid-fits}
 use Rattle.model.proofs.Protocol.Waiting.{waiting-begun}
 use Rattle.model.proofs.Protocol.Turn.{serve-length, serve-kept}
@@ -21,24 +21,23 @@ use Rattle.model.proofs.Protocol.Run.{run-done, run-fuel, run-next}
 use Rattle.model.proofs.Protocol.LongerBuffer.{front-served}
 use Rattle.model.proofs.Protocol.Idle.{Quiet, run-idle, silent-before}
 use Rattle.model.specs.Idle.{idleBus, silentTurns}
-use Rattle.queue.specs.Queue.{ValidNode, ReleasedBefore, Arrived, BegunFrom, FirstUnbegun}
+use Rattle.queue.specs.Queue.{ValidNode, Arrived, BegunFrom, FirstUnbegun}
 use Rattle.bus.specs.Turns.{NextEvent}
 
 -- The bus between two turns, with the begin words in the front of a buffer.
-abbrev stateIn : List ℕ → Bus → List ℕ → State
+abbrev pub stateIn : List ℕ → Bus → List ℕ → State
 stateIn log bus room = record { bus = bus; begins = take (releases log) room }
 
--- The run has come to this record and this buffer.
-pub record Running (s log : List ℕ) (horizon : ℕ) (room₀ room : List ℕ) (bus : Bus) (from to : ℕ) : Type 0 where
-  pub reached : run s log horizon horizon (stateIn log bus room) ≡ replayed s log horizon
+-- The run, which ends in this state, has come to this record and this buffer.
+pub record Running (s log : List ℕ) (horizon : ℕ) (end : State) (room₀ room : List ℕ) (bus : Bus) (from to : ℕ) : Type 0 where
+  pub reached : run s log horizon horizon (stateIn log bus room) ≡ end
   pub rest : drop (releases log) room ≡ drop (releases log) room₀
   pub sameLength : length room ≡ length room₀
   pub node : ValidNode s (bus .node)
-  pub turnsTo : bus .turns ≤ bus .tick
+  pub turnsTo : bus .turns ≤ maxTime + bus .tick
   pub fromInLog : from ≤ releases log
   pub toInLog : to ≤ releases log
   pub begun : BegunFrom room 0 from
-  pub released : ReleasedBefore log (bus .tick) to
 
 -- The next turn's starting place: those from the last one on that have begun are passed.
 pub moved-on : {log room : List ℕ} {known from : ℕ}
@@ -55,7 +54,7 @@ moved-on {known = known} before inLog passed stops =
     }
 
 -- Where all that has come has begun, no release before the next event is left in the buffer's front.
-quiet-front : {log room : List ℕ} {horizon tick from to until : ℕ}
+pub quiet-front : {log room : List ℕ} {horizon tick from to until : ℕ}
     → FirstUnbegun log room from
     → to ≤ from
     → NextEvent log horizon tick to until
@@ -66,35 +65,44 @@ quiet-front {log} {room} {from = from} {to = to} first all event i there unbegun
     (λ after. event .quiet i (omega arith) there)
 
 module _ (s log : List ℕ) (horizon : ℕ) where
-  -- The run starts with a buffer whose front says that nothing has begun.
-  pub running-start : {room : List ℕ}
-      → Valid s
+  -- A run starts with a buffer whose front says that nothing has begun,
+  pub running-from : {room : List ℕ} {to : ℕ} (bus : Bus)
+      → ValidNode s (bus .node)
+      → bus .turns ≤ maxTime
+      → to ≤ releases log
       → take (releases log) room ≡ replicate (releases log) notBegun
-      → Running s log horizon room room (record { tick = 0; node = 1; turns = 0 }) 0 0
-  unfolding replayed start
-  running-start valid clear =
+      → Running s log horizon (run s log horizon horizon (noneBegun log bus)) room room bus 0 to
+  running-from bus node few inLog clear =
       record {
         reached = rw clear refl;
         rest = refl;
         sameLength = refl;
-        node = record { valid = valid; from = le-refl 1; upTo = valid-fits s valid .header .nodesFrom };
-        turnsTo = le-refl 0;
+        node = node;
+        turnsTo = omega arith;
         fromInLog = zero-le;
-        toInLog = zero-le;
+        toInLog = inLog;
         begun = λ i low below. absurd (not-suc-le-zero below);
-        released = λ i below. absurd (not-suc-le-zero below);
       }
 
+  -- and a replay with the bus's first turn.
+  pub running-start : {room : List ℕ}
+      → Valid s
+      → take (releases log) room ≡ replicate (releases log) notBegun
+      → Running s log horizon (replayed s log horizon) room room firstTurn 0 0
+  unfolding replayed start
+  running-start valid clear =
+      running-from firstTurn (record { valid = valid; from = le-refl 1; upTo = valid-fits s valid .header .nodesFrom }) (omega arith) zero-le clear
+
   -- One turn more.
-  pub running-on : {room₀ room : List ℕ} {bus : Bus} {from to known last : ℕ}
+  pub running-on : {end : State} {room₀ room : List ℕ} {bus : Bus} {from to known last : ℕ}
       → bus .tick < horizon
       → releases log ≤ length room
       → FirstUnbegun log room from
       → Arrived log (bus .tick) to
-      → Running s log horizon room₀ room bus known last
-      → Running s log horizon room₀ (serveTurn s log bus room .begins) (nextBus s bus (serveTurn s log bus room .taken)) from to
+      → Running s log horizon end room₀ room bus known last
+      → Running s log horizon end room₀ (serveTurn s log bus room .begins) (nextBus s bus (serveTurn s log bus room .taken)) from to
   unfolding nextBus turn
-  running-on {room₀} {room} {bus} {from} {to} early fits first arrived here =
+  running-on {end} {room₀} {room} {bus} {from} {to} early fits first arrived here =
       let n : ℕ = releases log in
       let m : ℕ = budget s (bus .node) in
       let header = valid-fits s (here .node .valid) .header in
@@ -111,24 +119,23 @@ module _ (s log : List ℕ) (horizon : ℕ) where
         begun = λ i low below unbegun.
             let kept = serve-kept s log (bus .node) (bus .tick) m room i (λ _. waiting-begun s log (bus .node) (bus .tick) room i (first .begun i low below)) in
             first .begun i low below (sym kept ∙ unbegun);
-        released = λ i below. omega (arith, arrived .released i below);
       }
 
-  -- All that has come has begun: the silent turns up to the next release or the horizon, at once.
-  pub running-idle : {room₀ room : List ℕ} {bus : Bus} {from to known last until : ℕ}
+  -- Nothing is due: the silent turns up to the next release or the horizon, at once.
+  pub running-idle : {end : State} {room₀ room : List ℕ} {bus : Bus} {from to known last until : ℕ}
       → FirstUnbegun log room from
       → Arrived log (bus .tick) to
-      → to ≤ from
-      → NextEvent log horizon (bus .tick) to until
-      → Running s log horizon room₀ room bus known last
-      → Running s log horizon room₀ room (idleBus s bus (silentTurns (slotTicks s) (bus .tick) until)) from to
-  running-idle {room₀} {room} {bus} {from} {to} {until = until} first arrived all event here =
+      → bus .tick < until
+      → until ≤ horizon
+      → Quiet log (take (releases log) room) until
+      → Running s log horizon end room₀ room bus known last
+      → Running s log horizon end room₀ room (idleBus s bus (silentTurns (slotTicks s) (bus .tick) until)) from to
+  running-idle {end} {room₀} {room} {bus} {from} {to} {until = until} first arrived later inRun quiet here =
       let st = stateIn log bus room in
       let k : ℕ = silentTurns (slotTicks s) (bus .tick) until in
       let header = valid-fits s (here .node .valid) .header in
-      let silent = silent-before (slotTicks s) (bus .tick) until (header .slotFrom) (event .later) in
-      let quiet = quiet-front first all event in
-      let taken = run-idle s log horizon horizon st until k (here .node .from) (here .node .upTo) quiet (silent .last) (omega (arith, silent .last, event .inRun)) in
+      let silent = silent-before (slotTicks s) (bus .tick) until (header .slotFrom) later in
+      let taken = run-idle s log horizon horizon st until k (here .node .from) (here .node .upTo) quiet (silent .last) (omega (arith, silent .last, inRun)) in
       let fuel = run-fuel s log horizon (header .slotFrom) (k + horizon) horizon st (omega arith) (omega arith) in
       record {
         reached = sym taken ∙ fuel ∙ here .reached;
@@ -139,16 +146,15 @@ module _ (s log : List ℕ) (horizon : ℕ) where
         fromInLog = first .inLog;
         toInLog = arrived .inLog;
         begun = first .begun;
-        released = λ i below. omega (arith, arrived .released i below);
       }
 
   -- At the horizon the run is done.
-  pub running-done : {room₀ room : List ℕ} {bus : Bus} {from to : ℕ}
+  pub running-done : {end : State} {room₀ room : List ℕ} {bus : Bus} {from to : ℕ}
       → horizon ≤ bus .tick
-      → Running s log horizon room₀ room bus from to
-      → (bus ≡ replayed s log horizon .bus) × (room ≡ replayed s log horizon .begins ++ drop (releases log) room₀)
-  running-done {room₀} {room} {bus} late here =
-      let end = sym (run-done s log horizon horizon (stateIn log bus room) late) ∙ here .reached in (
-        ap (λ st. st .bus) end,
-        rw (← here .rest, ← ap (λ st. st .begins) end) (sym (take-append-drop (releases log) room)),
+      → Running s log horizon end room₀ room bus from to
+      → (bus ≡ end .bus) × (room ≡ end .begins ++ drop (releases log) room₀)
+  running-done {end} {room₀} {room} {bus} late here =
+      let ended = sym (run-done s log horizon horizon (stateIn log bus room) late) ∙ here .reached in (
+        ap (λ st. st .bus) ended,
+        rw (← here .rest, ← ap (λ st. st .begins) ended) (sym (take-append-drop (releases log) room)),
       )

@@ -9,11 +9,14 @@ use model::Answer;
 use model::Bus;
 use queue::arrived_by;
 use queue::next_unbegun;
+pub use turns::Header;
 use turns::clear;
-use turns::header_of;
-use turns::next_bus;
+pub use turns::header_of;
+pub use turns::next_bus;
+pub use turns::next_event;
+pub use turns::pass_idle;
 use turns::run_to;
-use turns::run_turn;
+pub use turns::run_turn;
 
 mod turns; // turns.rt: one turn, and the run of turns to a horizon
 

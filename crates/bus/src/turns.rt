@@ -1,13 +1,13 @@
 // One turn, the record after it, and the run of turns to a horizon, on input that has been checked.
 ghost use mathlib.Core.Path.{_≡_};
-ghost use Prim.Native.Nat.{_≤_, _<_};
+ghost use Prim.Native.Nat.{_+_, _≤_, _<_};
 ghost use mathlib.Core.List.{_++_};
 ghost use lib.ListN.{length, take, drop, replicate};
 ghost use Rattle.model.specs.Limits.{maxTime, maxBudget, maxSlotTicks, notBegun};
-ghost use Rattle.model.specs.Sheet.{slotTicks, Valid};
+ghost use Rattle.model.specs.Sheet.{slotTicks, budget, Valid};
 ghost use Rattle.model.specs.Idle.{idleBus, silentTurns, SilentBefore};
-ghost use Rattle.model.specs.Protocol.{releases, beginsFrom, serveTurn, nextNode, nextBus, replayed};
-ghost use Rattle.queue.specs.Queue.{ValidNode, Rising, Arrived, FirstUnbegun};
+ghost use Rattle.model.specs.Protocol.{releases, takenBy, beginsFrom, serveTurn, nextNode, nextBus, replayed};
+ghost use Rattle.queue.specs.Queue.{ValidNode, Rising, RisingFrom, Arrived, FirstUnbegun};
 ghost use Rattle.bus.specs.Turns.{headerAs, AllBelow, NextEvent};
 use model::Bus;
 use queue::arrived_by;
@@ -48,8 +48,8 @@ fn begin_messages(message: u32, tick: u32, places: &[usize], count: usize, room:
     }
 }
 
-// The record's turn, with the first `to` releases arrived and the first one that has not begun at `from`: looks once at the queue and
-// writes the begin ticks of the messages that it takes. Answers how many those are.
+// The record's turn, where all releases that are due are among the first `to` and the first one that has not begun is at `from`: looks once
+// at the queue and writes the begin ticks of the messages that it takes. Answers how many those are; they stand in `found`.
 pub fn run_turn(
     sheet: &[u32],
     header: Header,
@@ -64,6 +64,7 @@ pub fn run_turn(
     requires { ⌜ (header ≡ headerAs (now sheet)) × FirstUnbegun (now log) (now room) from × Arrived (now log) (bus .tick) to ⌝ }
     ensures taken { λ r. ⌜ r ≡ serveTurn (now (sheet .entry)) (now (log .entry)) bus (now (room .entry)) .taken ⌝ }
     ensures begins { λ r. ⌜ now (room .exit) ≡ serveTurn (now (sheet .entry)) (now (log .entry)) bus (now (room .entry)) .begins ⌝ }
+    ensures found { λ r. ⌜ take r (now (found .exit)) ≡ takenBy (now (sheet .entry)) (now (log .entry)) (bus .node) (bus .tick) (budget (now (sheet .entry)) (bus .node)) (now (room .entry)) ⌝ }
 {
     let taken = look(sheet, log, bus.node, bus.tick, from, to, &room[..], found);
     begin_messages(header.message, bus.tick, &found[..], taken, room);
@@ -84,7 +85,7 @@ fn next_node(sheet: &[u32], header: Header, k: u32) -> u32
 // The record after a turn that took so many messages.
 pub fn next_bus(sheet: &[u32], header: Header, bus: Bus, taken: u32) -> Bus
     requires { ⌜ ValidNode (now sheet) (bus .node) × (header ≡ headerAs (now sheet)) ⌝ }
-    requires { ⌜ (bus .tick ≤ maxTime) × (bus .turns ≤ maxTime) × (taken ≤ maxBudget) ⌝ }
+    requires { ⌜ (bus .tick ≤ maxTime) × (bus .turns ≤ maxTime + bus .tick) × (taken ≤ maxBudget) ⌝ }
     ensures { λ r. ⌜ r ≡ nextBus (now (sheet .entry)) bus taken ⌝ }
 {
     let node = next_node(sheet, header, bus.node);
@@ -107,10 +108,9 @@ pub fn clear(room: &mut [u32], count: usize)
     }
 }
 
-// The next tick at which something can happen, where the first `to` releases have begun and come by a tick: the next release, or
-// the horizon.
-fn next_event(log: &[u32], horizon: u32, tick: u32, to: usize) -> u32
-    requires { ⌜ Rising (now log) × Arrived (now log) tick to × (tick < horizon) ⌝ }
+// The next tick at which one of the releases from `to` on can be due, where none of them is at a tick: the first of them, or the horizon.
+pub fn next_event(log: &[u32], horizon: u32, tick: u32, to: usize) -> u32
+    requires { ⌜ RisingFrom (now log) to × Arrived (now log) tick to × (tick < horizon) ⌝ }
     ensures { λ r. ⌜ NextEvent (now (log .entry)) horizon tick to r ⌝ }
 {
     if log.len() / 2 <= to {
@@ -130,9 +130,9 @@ fn silent_turns(slot: u32, tick: u32, until: u32) -> u32
 }
 
 // The silent turns that start before a tick, taken at once: the record after them.
-fn pass_idle(sheet: &[u32], header: Header, bus: Bus, until: u32) -> Bus
+pub fn pass_idle(sheet: &[u32], header: Header, bus: Bus, until: u32) -> Bus
     requires { ⌜ ValidNode (now sheet) (bus .node) × (header ≡ headerAs (now sheet)) ⌝ }
-    requires { ⌜ (bus .tick < until) × (until ≤ maxTime) × (bus .turns ≤ bus .tick) ⌝ }
+    requires { ⌜ (bus .tick < until) × (until ≤ maxTime) × (bus .turns ≤ maxTime + bus .tick) ⌝ }
     ensures { λ r. ⌜ r ≡ idleBus (now (sheet .entry)) bus (silentTurns (slotTicks (now (sheet .entry))) (bus .tick) until) ⌝ }
 {
     let turns = silent_turns(header.slot, bus.tick, until);

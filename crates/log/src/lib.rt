@@ -13,11 +13,12 @@ use model::Answer;
 use model::Bus;
 use range::refuse_if;
 use reader::check_log;
+pub use reader::check_piece;
 
 mod reader; // reader.rt: refusal 9
 
 // A tick or a number of turns too large in a record, or a node that is not on the bus.
-fn record_is_wrong(sheet: &[u32], bus: Bus) -> bool
+pub fn record_is_wrong(sheet: &[u32], bus: Bus) -> bool
     ensures { λ r. ⌜ r ≡ (ltb maxTime (bus .tick) || ltb maxTime (bus .turns) || outside 1 (nodes (now (sheet .entry))) (bus .node)) ⌝ }
 {
     if 1000000000 < bus.tick {

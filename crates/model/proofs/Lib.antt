@@ -4,3 +4,4 @@ pub mod Analysis
 pub mod Protocol
 pub mod Answers
 pub mod Demand
+pub mod Trace

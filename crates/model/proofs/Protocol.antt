@@ -3,7 +3,9 @@ pub mod Events
 pub mod Queue
 pub mod Waiting
 pub mod Turn
+pub mod TurnCount
 pub mod LongerBuffer
 pub mod Clock
 pub mod Run
 pub mod Idle
+pub mod RunWords

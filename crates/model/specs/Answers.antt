@@ -1,10 +1,10 @@
 -- "What is answered": the three numbers of each entry that takes a sheet, and what it leaves in the lent buffer ("room") and in the bus
 -- record, for every input. Rules 5.5, 6 and 7. Assumes nothing.
-use Prim.Native.Nat.{ℕ, zero, suc, pred, _%_}
-use mathlib.Core.Bool.{cond, _||_, not}
+use Prim.Native.Nat.{ℕ, zero, suc, pred, _+_, _%_}
+use mathlib.Core.Bool.{Bool, cond, _||_, not}
 use mathlib.Core.List.{List, _++_}
 use lib.ListN.{length, drop}
-use lib.Dec.{ltb, eqb}
+use lib.Dec.{ltb, leb, eqb}
 use Rattle.theory.specs.Listing.{valuesFrom}
 use Rattle.model.specs.declared.Answer.{Answer}
 use Rattle.model.specs.declared.Bus.{Bus}
@@ -12,7 +12,7 @@ use Rattle.model.specs.declared.Verdict.{Verdict}
 use Rattle.model.specs.declared.Verdict.the-variants.{Late, Listed}
 use Rattle.model.specs.Limits.{releaseWords, maxReleases, maxTime}
 use Rattle.model.specs.Refusal.{success, refuse, accepted, refuseIf, _orElse_, firstOf, outside}
-use Rattle.model.specs.Sheet.{nodes, streamCount, budget, totalStreams, inSheetOrder, cycle, sheetRefusal}
+use Rattle.model.specs.Sheet.{word, nodes, streamCount, budget, totalStreams, inSheetOrder, cycle, sheetRefusal}
 use Rattle.model.specs.Analysis.{verdictOf, verdictWith}
 use Rattle.model.specs.Protocol.{releases, releaseTick, releaseStream, serveTurn, nextBus, State, replayed}
 
@@ -31,13 +31,15 @@ tickBefore log zero = 0
 tickBefore log (suc zero) = 0
 tickBefore log (suc (suc i)) = releaseTick log i
 
--- Refusal 9 of one release, counted from 1: "a tick too large, a falling tick or a stream unknown".
+-- True for a release, counted from 1, with "a tick too large, a falling tick or a stream unknown".
+abbrev pub releaseWrong : List ℕ → List ℕ → ℕ → Bool
+releaseWrong s log i =
+    ltb maxTime (releaseTick log (pred i)) || ltb (releaseTick log (pred i)) (tickBefore log i)
+    || outside 1 (totalStreams s) (releaseStream log (pred i))
+
+-- Refusal 9 of one release, counted from 1.
 unfoldable pub releaseRefusal : List ℕ → List ℕ → ℕ → Answer
-releaseRefusal s log i =
-    refuseIf
-    (ltb maxTime (releaseTick log (pred i)) || ltb (releaseTick log (pred i)) (tickBefore log i)
-    || outside 1 (totalStreams s) (releaseStream log (pred i)))
-    (refuse 9 0 i)
+releaseRefusal s log i = refuseIf (releaseWrong s log i) (refuse 9 0 i)
 
 -- Refusal 9: "odd length, then too many releases (0, 0); then the first release with" a fault.
 unfoldable pub logRefusal : List ℕ → List ℕ → Answer
@@ -45,6 +47,23 @@ logRefusal s log =
     refuseIf (not (eqb (length log % releaseWords) 0)) (refuse 9 0 0)
     orElse refuseIf (ltb maxReleases (releases log)) (refuse 9 0 0)
     orElse firstOf (releaseRefusal s log) 1 (releases log)
+
+-- Document 02, "Seven": true for a release of a piece, counted from 1, with a fault as in any log, or "a tick outside the piece": a piece has ticks "from the old
+-- horizon up to below the new".
+abbrev pub pieceReleaseWrong : List ℕ → ℕ → ℕ → List ℕ → ℕ → Bool
+pieceReleaseWrong s old new piece i =
+    releaseWrong s piece i || ltb (releaseTick piece (pred i)) old || leb new (releaseTick piece (pred i))
+
+-- Refusal 9 of it; "its place counts within the piece".
+unfoldable pub pieceReleaseRefusal : List ℕ → ℕ → ℕ → List ℕ → ℕ → Answer
+pieceReleaseRefusal s old new piece i = refuseIf (pieceReleaseWrong s old new piece i) (refuse 9 0 i)
+
+-- Refusal 9 of a piece, with so many releases in the pieces before: odd length, then too many releases, "4,096 is for all pieces together"; then the first release with a fault.
+unfoldable pub pieceRefusal : List ℕ → ℕ → ℕ → ℕ → List ℕ → Answer
+pieceRefusal s before old new piece =
+    refuseIf (not (eqb (length piece % releaseWords) 0)) (refuse 9 0 0)
+    orElse refuseIf (ltb maxReleases (before + releases piece)) (refuse 9 0 0)
+    orElse firstOf (pieceReleaseRefusal s old new piece) 1 (releases piece)
 
 -- Refusal 10: "horizon too large".
 unfoldable pub horizonRefusal : ℕ → Answer
@@ -54,6 +73,11 @@ horizonRefusal horizon = refuseIf (ltb maxTime horizon) (refuse 10 0 0)
 unfoldable pub recordRefusal : List ℕ → Bus → Answer
 recordRefusal s bus =
     refuseIf (ltb maxTime (bus .tick) || ltb maxTime (bus .turns) || outside 1 (nodes s) (bus .node)) (refuse 16 0 0)
+
+-- Refusal 16 of a waiting message in the record of a replay by pieces, counted from 1: "a waiting stream out of range". The list has their
+-- streams.
+unfoldable pub waitingRefusal : List ℕ → List ℕ → ℕ → Answer
+waitingRefusal s streams i = refuseIf (outside 1 (totalStreams s) (word streams (pred i))) (refuse 16 0 0)
 
 -- The three numbers of a verdict on stream j of node k: its listed wait and J, or refusal 7.
 unfoldable pub verdictAnswer : ℕ → ℕ → Verdict → Answer

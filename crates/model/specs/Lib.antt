@@ -5,6 +5,7 @@ pub mod Refusal
 pub mod Sheet
 pub mod Analysis
 pub mod Protocol
+pub mod Trace
 pub mod Idle
 pub mod Answers
 pub mod Demand

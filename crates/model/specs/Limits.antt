@@ -41,6 +41,10 @@ maxTime = 1_000_000_000
 abbrev pub maxReleases : ℕ
 maxReleases = 4_096
 
+-- "two hundred and fifty-six waiting places" in the record of a replay by pieces.
+abbrev pub maxWaiting : ℕ
+maxWaiting = 256
+
 -- The word of a release that has not begun.
 abbrev pub notBegun : ℕ
 notBegun = 4_294_967_295

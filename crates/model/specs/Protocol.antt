@@ -124,9 +124,17 @@ turn s log st =
     let v = serveTurn s log (st .bus) (st .begins) in
     record { bus = nextBus s (st .bus) (v .taken); begins = v .begins }
 
--- "The bus starts at tick 0 with node 1's turn and nothing sent."
+-- The bus with a record of its next turn, and none of a log's releases begun.
+abbrev pub noneBegun : List ℕ → Bus → State
+noneBegun log bus = record { bus = bus; begins = replicate (releases log) notBegun }
+
+-- "The bus starts at tick 0 with node 1's turn",
+abbrev pub firstTurn : Bus
+firstTurn = record { tick = 0; node = 1; turns = 0 }
+
+-- "and nothing sent."
 unfoldable pub start : List ℕ → State
-start log = record { bus = record { tick = 0; node = 1; turns = 0 }; begins = replicate (releases log) notBegun }
+start log = noneBegun log firstTurn
 
 -- The bus before turn i of the protocol, counted from 0; no horizon ends it.
 unfoldable pub stateAt : List ℕ → List ℕ → ℕ → State

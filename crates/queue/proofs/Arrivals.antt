@@ -4,12 +4,12 @@ use mathlib.Core.List.{List}
 use native.Mathlib.Decide.{le-ind}
 use native.Mathlib.Omega.{arith}
 use Rattle.model.specs.Protocol.{releases, releaseTick}
-use Rattle.queue.specs.Queue.{Rising}
+use Rattle.queue.specs.Queue.{RisingFrom}
 
--- Where ticks never fall, all releases from one on that is after a tick are after it.
+-- Where ticks never fall from one on that is after a tick, all releases from it on are after it.
 pub rises-on : (log : List ℕ) {tick from : ℕ}
     → tick < releaseTick log from
-    → Rising log
+    → RisingFrom log from
     → (i : ℕ)
     → from ≤ i
     → i < releases log
@@ -18,7 +18,7 @@ rises-on log {tick} late rising i after inLog =
     le-ind
     (λ m. m < releases log → tick < releaseTick log m)
     (λ _. late)
-    (λ m _ ih there. omega (arith, ih (omega arith), rising m there))
+    (λ m low ih there. omega (arith, ih (omega arith), rising m low there))
     i
     after
     inLog

@@ -8,9 +8,9 @@ use mathlib.Core.Logic.{⊎-elim}
 use native.Mathlib.Nat.{eq-or-lt-of-le}
 use native.Mathlib.Numerals.{add-one}
 use native.Mathlib.Omega.{arith}
-use lib.Dec.{ltb}
+use lib.Dec.{ltb, leb}
 use lib.ListN.{length, take, drop}
-use borrow.Author.Tests.{ltb-true, le-ltb}
+use borrow.Author.Tests.{ltb-true, le-ltb, leb-true, leb-false}
 use Rattle.theory.specs.Queue.{Queue, firstOnes, inserted}
 use Rattle.theory.proofs.Tests.{and-reading}
 use Rattle.theory.proofs.Places.{at-word}
@@ -20,10 +20,10 @@ use Rattle.theory.proofs.OnePass.{below, ones-start, ones-passed, ones-end, one
 use Rattle.model.specs.Limits.{notBegun}
 use Rattle.model.specs.Sheet.{word}
 use Rattle.model.specs.Analysis.{outranks}
-use Rattle.model.specs.Protocol.{releases, releaseStream, ofNode, streamOfRelease, queuedBefore, waiting, queueOf, takenBy}
+use Rattle.model.specs.Protocol.{releases, releaseTick, releaseStream, ofNode, streamOfRelease, queuedBefore, waiting, queueOf, takenBy}
 use Rattle.model.proofs.Protocol.Queue.{ofNode-reading, queue-total}
 use Rattle.model.proofs.Protocol.Waiting.{waiting-true, waiting-holds, waiting-begun, waiting-later, waiting-other}
-use Rattle.queue.specs.Queue.{Arrived, BegunFrom, Found, foundWith}
+use Rattle.queue.specs.Queue.{Arrived, BegunFrom, Found, foundWith, foundBy}
 
 -- One more release has begun.
 pub begun-more : (room : List ℕ) (from to : ℕ)
@@ -82,17 +82,16 @@ module _ {s log : List ℕ} {k tick m : ℕ} {room : List ℕ} where
   look-on {i} {j} upTo out so-far =
       record { few = so-far .few; line = so-far .line ∙ sym (ones-passed (queueOf s log k tick room) m i j upTo out) }
 
-  -- One that has arrived and not begun is put in, if it is the node's.
-  pub look-next : {to i count next : ℕ} {found after : List ℕ}
-      → Arrived log tick to
-      → i < to
+  -- One that has not begun is put in, if it is due and the node's.
+  pub look-next : {i count next : ℕ} {found after : List ℕ}
+      → i < releases log
       → word room i ≡ notBegun
       → next ≤ m
-      → take next after ≡ foundWith s log k m i (take count found)
+      → take next after ≡ foundBy s log k tick m i (take count found)
       → Looked s log k tick m room i count found
       → Looked s log k tick m room (i + 1) next after
-  look-next {i = i} {count = count} {found = found} arrived early unbegun few put so-far =
-      record { few = few; line = rw (add-one i) (put ∙ ap (foundWith s log k m i) (so-far .line) ∙ go (ofNode s k (releaseStream log i)) refl) }
+  look-next {i = i} {count = count} {found = found} inLog unbegun few put so-far =
+      record { few = few; line = rw (add-one i) (put ∙ ap (foundBy s log k tick m i) (so-far .line) ∙ due (leb (releaseTick log i) tick) refl) }
     where
       q : Queue
       q = queueOf s log k tick room
@@ -100,14 +99,23 @@ module _ {s log : List ℕ} {k tick m : ℕ} {room : List ℕ} where
       line : List ℕ
       line = firstOnes m (below i q)
 
+      passed : waiting s log k tick room i ≡ false → line ≡ firstOnes m (below (suc i) q)
+      passed out = sym (ones-passed q m i (suc i) (omega arith) (λ n low high. let same : n ≡ i = omega arith in rw same out))
+
       go : (b : Bool)
+          → releaseTick log i ≤ tick
           → ofNode s k (releaseStream log i) ≡ b
           → cond b (take m (inserted (queuedBefore s log k) i line)) line ≡ firstOnes m (below (suc i) q)
-      go true own =
-          let waits = waiting-holds s log k tick room i (record { released = arrived .released i early; own = own; unbegun = unbegun }) in
-          sym (ones-insert m i q (omega (arith, arrived .inLog)) waits)
-      go false other =
-          sym (ones-passed q m i (suc i) (omega arith) (λ n low high. let same : n ≡ i = omega arith in rw same (waiting-other s log k tick room i other)))
+      go true early own =
+          let waits = waiting-holds s log k tick room i (record { released = early; own = own; unbegun = unbegun }) in
+          sym (ones-insert m i q inLog waits)
+      go false early other = passed (waiting-other s log k tick room i other)
+
+      due : (b : Bool)
+          → leb (releaseTick log i) tick ≡ b
+          → cond b (foundWith s log k m i line) line ≡ firstOnes m (below (suc i) q)
+      due true early = go (ofNode s k (releaseStream log i)) (leb-true (releaseTick log i) tick early) refl
+      due false late = passed (waiting-later s log k tick room i (leb-false (releaseTick log i) tick late))
 
   -- The look ends where all later ones are released after the tick.
   pub look-end : {to i count : ℕ} {found : List ℕ}

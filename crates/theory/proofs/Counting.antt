@@ -151,3 +151,13 @@ pub countBelow-same : (f g : ℕ → Bool) (n : ℕ) → ((i : ℕ) → i < n �
 unfolding countBelow
 countBelow-same f g zero agree = refl
 countBelow-same f g (suc n) agree = rw (agree n (omega arith), countBelow-same f g n λ i h. agree i (omega arith))
+
+-- A test holds for at most as many numbers as there are below the bound.
+pub countBelow-most : (test : ℕ → Bool) (n : ℕ) → countBelow test n ≤ n
+unfolding countBelow
+countBelow-most test zero = omega arith
+countBelow-most test (suc n) = go (test n) (countBelow-most test n)
+  where
+    go : {x : ℕ} (b : Bool) → x ≤ n → cond b (suc x) x ≤ suc n
+    go true h = omega arith
+    go false h = omega arith

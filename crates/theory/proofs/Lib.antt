@@ -6,9 +6,11 @@ pub mod Counting
 pub mod Sums
 pub mod Listing
 pub mod Overwriting
+pub mod Holding
 pub mod Places
 pub mod First
 pub mod FirstOnes
+pub mod Embedding
 pub mod Insertion
 pub mod OnePass
 pub mod Arrivals

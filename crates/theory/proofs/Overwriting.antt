@@ -6,7 +6,7 @@ use native.Mathlib.Omega.{arith}
 use mathlib.Core.Path.{_≡_, refl, sym, _∙_, ap}
 use mathlib.Core.List.{List, [], _∷_, _++_, append-nil, append-assoc}
 use lib.ListN.{length, getD, set, take, drop, length-append, length-drop, take-append-drop, drop-of-length-le}
-use lib.Seq.{length-take-le, drop-drop, take-at, drop-append-add, drop-cons, set-at, append-snoc, take-suc, take-length, take-all}
+use lib.Seq.{length-take-le, drop-drop, take-at, drop-at, drop-append-add, drop-cons, set-at, append-snoc, take-suc, take-length, take-all, take-suc-set, drop-set-lt}
 use borrow.Author.Tests.{le-ltb, lt-ltb}
 use Rattle.theory.specs.Listing.{replacedAt, putFront}
 
@@ -21,6 +21,21 @@ module _ (xs : List ℕ) (at : ℕ) (vs : List ℕ) (fits : at + length vs ≤ l
   whole : replacedAt xs at vs ≡ (take at xs ++ vs) ++ drop (at + length vs) xs
   whole = sym (append-assoc (take at xs) vs (drop (at + length vs) xs))
 
+  -- The list up to their end,
+  pub over-upto : take (at + length vs) (replacedAt xs at vs) ≡ take at xs ++ vs
+  over-upto = ap (take (at + length vs)) whole ∙ take-at (take at xs ++ vs) (drop (at + length vs) xs) (at + length vs) front-length
+
+  -- past it,
+  pub over-past : drop (at + length vs) (replacedAt xs at vs) ≡ drop (at + length vs) xs
+  over-past = ap (drop (at + length vs)) whole ∙ drop-at (take at xs ++ vs) (drop (at + length vs) xs) (at + length vs) front-length
+
+  -- and its length.
+  pub over-length : length (replacedAt xs at vs) ≡ length xs
+  over-length =
+      ap length whole
+      ∙ length-append (take at xs ++ vs) (drop (at + length vs) xs)
+      ∙ omega (arith, fits, front-length, length-drop (at + length vs) xs)
+
   -- More values after them.
   pub over-more : (ws : List ℕ) → replacedAt (replacedAt xs at vs) (at + length vs) ws ≡ replacedAt xs at (vs ++ ws)
   over-more ws =
@@ -31,6 +46,16 @@ module _ (xs : List ℕ) (at : ℕ) (vs : List ℕ) (fits : at + length vs ≤ l
       let left = past ∙ drop-drop (length ws) (at + length vs) xs in
       let all : at + length (vs ++ ws) ≡ at + length vs + length ws = omega (arith, length-append vs ws) in
       rw (whole, taken, left, all) (append-assoc (take at xs) vs _ ∙ ap (λ more. take at xs ++ more) (sym (append-assoc vs ws _)))
+
+-- The first of some values written alone, and then the others after it.
+pub over-set : (xs : List ℕ) (at v : ℕ) (vs : List ℕ)
+    → at < length xs
+    → replacedAt xs at (v ∷ vs) ≡ replacedAt (set xs at v) (suc at) vs
+over-set xs at v vs there =
+    let past : at + suc (length vs) ≡ suc at + length vs = omega arith in
+    let front = take-suc-set xs at v there in
+    let back = drop-set-lt (suc at + length vs) xs at v (omega arith) in
+    sym (rw (front, back, past) (append-snoc (take at xs) v (vs ++ drop (suc at + length vs) xs)))
 
 -- The part of a list from a place on, with values in its first words, stands after what comes before that place.
 pub over-part : (xs : List ℕ) (at : ℕ) (vs : List ℕ) → take at xs ++ (vs ++ drop (length vs) (drop at xs)) ≡ replacedAt xs at vs

@@ -7,6 +7,8 @@ ghost use Rattle.model.specs.Limits.{maxNodes};
 ghost use Rattle.model.specs.Sheet.{totalStreams, sheetRefusal, OnSheet, Valid};
 ghost use Rattle.model.specs.Answers.{oneStreamAnswer, admitAnswer, admitBuffer, replayAnswer, replayBuffer, stepAnswer, stepBus, stepBuffer};
 ghost use Rattle.model.specs.Demand.{Judged, AllJudged, WholeReplay};
+ghost use Rattle.pieces.specs.Pieces.{resumeAnswer, resumeBuffer};
+ghost use Rattle.pieces.specs.Words.{checkpointIn, resumeWords, ContinuesIn};
 ghost use Rattle.budgets.specs.Answer.{findAnswer, findBuffer};
 ghost use Rattle.budgets.specs.Least.{LeastBudgets};
 ghost use Rattle.tables.specs.Tables.{lentTables};
@@ -85,6 +87,25 @@ pub extern "C" fn wistorvan_step(
     let t = bus::turn(sheet, log, b, room);
     *rec = t.bus;
     t.answer
+}
+
+// A piece of a log that is replayed as the day goes: the messages begun in it and the turns so far, and release number and begin tick of each
+// in the buffer's first words. The record is lent as a table of words, and the one to go on from stands there after it. A record that pieces
+// made stands for the log that they were a cutting of, and so does the one after it.
+#[no_mangle]
+pub extern "C" fn wistorvan_resume(
+    sheet: &[u32],
+    piece: &[u32],
+    horizon: u32,
+    checkpoint: &mut [u32; 774],
+    room: &mut [u32],
+) -> Answer
+    ensures answer { λ r. ⌜ r ≡ resumeAnswer (now (sheet .entry)) (checkpointIn (now (checkpoint .entry))) (now (piece .entry)) horizon (length (now (room .entry))) ⌝ }
+    ensures checkpoint { λ r. ⌜ now (checkpoint .exit) ≡ resumeWords (now (sheet .entry)) (now (checkpoint .entry)) (now (piece .entry)) horizon (length (now (room .entry))) ⌝ }
+    ensures buffer { λ r. ⌜ now (room .exit) ≡ resumeBuffer (now (sheet .entry)) (checkpointIn (now (checkpoint .entry))) (now (piece .entry)) horizon (now (room .entry)) ⌝ }
+    ensures whole { λ r. ⌜ ContinuesIn (now (sheet .entry)) (now (checkpoint .entry)) (now (piece .entry)) r (now (checkpoint .exit)) (now (room .exit)) ⌝ }
+{
+    pieces::resume_in(sheet, piece, horizon, checkpoint, room)
 }
 
 // "Write the sheet": a sheet made from tables, in the buffer's first words; the words written and C. What it wrote reads back as the same

@@ -9,11 +9,14 @@ mod jitters;
 mod loads;
 mod logs;
 mod long;
+mod made_up;
 mod named;
 mod named_budgets;
 mod named_full;
 mod named_jitters;
+mod named_pieces;
 mod named_tables;
+mod pieces;
 mod random;
 mod rounds;
 mod sheets;
@@ -31,7 +34,9 @@ pub use budgets::{budgets_case, many_rounds, BudgetsCase, MOST_TRIES_A_ROW};
 pub(crate) use deadlines::total_tries;
 pub use named::named;
 pub use named_budgets::named_budgets;
+pub use named_pieces::named_pieces;
 pub use named_tables::named_tables;
+pub use pieces::{made_up_case, pieces_case, Piece, PiecesCase};
 pub use tables::{tables_case, TablesCase};
 
 /// A generated replay starts no more turns, and most start far fewer.

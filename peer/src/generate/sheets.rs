@@ -294,6 +294,19 @@ pub(super) struct Valid {
     pub asked: Option<usize>,
 }
 
+/// A valid sheet that is made for replays, with no search for J in mind.
+pub(super) fn bus_sheet(random: &mut Random) -> Vec<u32> {
+    let mut plan = shape(random);
+    match random.weighted(&[35, 50, 15]) {
+        0 => fill_roomy(&mut plan, random),
+        1 => fill_tied(&mut plan, random),
+        _ => fill_slow(&mut plan, random),
+    }
+    let mut sheet = plan.words();
+    add_jitters(&mut sheet, random);
+    sheet
+}
+
 pub(super) fn valid_sheet(random: &mut Random) -> Valid {
     let mut plan = shape(random);
     // Few of the others are worth a long search for a stream that is late.

@@ -3,9 +3,11 @@
 
 use std::fmt::Debug;
 
-use peer::generate::{case, named, named_budgets, named_tables, BudgetsCase, Case, TablesCase};
+use peer::generate::{case, named, named_budgets, named_pieces, named_tables};
+use peer::generate::{BudgetsCase, Case, PiecesCase, TablesCase};
 use peer::stats::Figures;
-use peer::{admit, find_budgets, one_stream, replay, write_sheet, Answer, Tables};
+use peer::{admit, find_budgets, one_stream, replay, resume, write_sheet};
+use peer::{Answer, Checkpoint, Lent, Place, Tables};
 
 pub const NOT_BEGUN: u32 = peer::NOT_BEGUN;
 
@@ -282,6 +284,67 @@ pub fn found(sheet: &[u32]) -> (Answer, Vec<u32>) {
     (given, room)
 }
 
+/// A replay by pieces, good or broken.
+pub type Resume = fn(&Lent, &mut Checkpoint, &mut [u32]) -> Answer;
+
+/// Replays a piece on sheet A in a room with two words to spare. Those two must
+/// stay, and so must all words and the record if it is refused. Answers number
+/// and tick of each message begun.
+pub fn resumed(record: &mut Checkpoint, piece: &[u32], horizon: u32) -> (Answer, Vec<(u32, u32)>) {
+    resumed_on(&SHEET_A, record, piece, horizon)
+}
+
+/// The same on another sheet.
+pub fn resumed_on(
+    sheet: &[u32],
+    record: &mut Checkpoint,
+    piece: &[u32],
+    horizon: u32,
+) -> (Answer, Vec<(u32, u32)>) {
+    let before = record.clone();
+    let words = 2 * record.waiting as usize + piece.len();
+    let mut room = vec![OLD; words + 2];
+    let lent = Lent {
+        sheet,
+        piece,
+        horizon,
+    };
+    let given = resume(&lent, record, &mut room);
+    let begun = match given.number {
+        0 => given.second as usize,
+        _ => 0,
+    };
+    let (first, rest) = room.split_at(2 * begun);
+    assert!(rest.iter().all(|&word| word == OLD), "{room:?}");
+    assert!(given.number == 0 || *record == before, "a refusal");
+    let begun = first.chunks_exact(2).map(|words| (words[0], words[1]));
+    (given, begun.collect())
+}
+
+/// A record with these places: number, tick and stream of each.
+pub fn record_with(places: &[(u32, u32, u32)]) -> Checkpoint {
+    let mut record = Checkpoint::fresh();
+    for (place, &(number, tick, stream)) in record.places.iter_mut().zip(places) {
+        *place = Place {
+            number,
+            tick,
+            stream,
+        };
+    }
+    record.waiting = places.len() as u32;
+    record
+}
+
+/// Number, tick and stream of each that waits. All places past them must be 0.
+pub fn waiting(record: &Checkpoint) -> Vec<(u32, u32, u32)> {
+    let (waiting, rest) = record.places.split_at(record.waiting as usize);
+    assert!(rest.iter().all(|place| *place == Place::default()));
+    let waiting = waiting.iter();
+    waiting
+        .map(|place| (place.number, place.tick, place.stream))
+        .collect()
+}
+
 /// The places of the budgets in a valid sheet.
 pub fn budget_places(sheet: &[u32]) -> impl Iterator<Item = usize> {
     (0..sheet[0] as usize).map(|node| 3 + 3 * node + 2)
@@ -309,6 +372,12 @@ pub fn named_tables_case(name: &str) -> TablesCase {
 /// The named case for the search for budgets that has this name.
 pub fn named_budgets_case(name: &str) -> BudgetsCase {
     let mut all = named_budgets().into_iter();
+    all.find(|case| case.0 == name).expect(name).1
+}
+
+/// The named case for the replay by pieces that has this name.
+pub fn named_pieces_case(name: &str) -> PiecesCase {
+    let mut all = named_pieces().into_iter();
     all.find(|case| case.0 == name).expect(name).1
 }
 

@@ -1,6 +1,5 @@
 -- `bus::turn` meets its contract: where the checks find nothing, the turn that is run is the step's. Assumes nothing.
 use mathlib.Core.Path.{_≡_}
-use native.Mathlib.Nat.{not-suc-le-zero}
 use native.Mathlib.Omega.{arith}
 use borrow.Author.Needs.{needs}
 use lib.ListN.{length}
@@ -33,7 +32,7 @@ next-unbegun-requires : tie.Need-next-unbegun-requires
 next-unbegun-requires c κs = (omega arith, omega (arith, checked (c .before) .roomFor))
 
 arrived-by-requires : tie.Need-arrived-by-requires
-arrived-by-requires c κs = (log-rises _ _ (checked (c .before .before) .logged), omega arith, λ i below. absurd (not-suc-le-zero below))
+arrived-by-requires c κs = ((λ i low. log-rises _ _ (checked (c .before .before) .logged) i), omega arith)
 
 header-of-requires : tie.Need-header-of-requires
 header-of-requires c κs = search needs
@@ -63,7 +62,7 @@ next-bus-requires c κs =
     let a = c .before .before .before .before .before .before .before .before .before .before .before .before .before .before .before .before .args in
     let ok = checked (c .before .before .before .before .before .before .before .before .before .before) in
     let few = taken-few (a .sheet .now) (a .log .now) (a .bus) (a .room .now) (step-node ok) in
-    ((step-node ok, c .before .before .before .before .before .before .header-of .ensures), (ok .tickTo, ok .turnsTo, rw (c .before .before .before .run-turn .ensures .0) few))
+    ((step-node ok, c .before .before .before .before .before .before .header-of .ensures), (ok .tickTo, omega (arith, ok .turnsTo), rw (c .before .before .before .run-turn .ensures .0) few))
 
 same-length : tie.Need-same-length
 same-length c = search needs
@@ -74,7 +73,7 @@ returns-2 c =
     let taken = c .before .before .before .before .run-turn .ensures .0 in
     let next = rw taken at (c .next-bus .ensures) in
     let outcome = step-served (a .sheet .now) (a .log .now) (a .bus) (a .room .now) (none (c .before .before .before .before .before .before .before .before .before .before .before)) in
-    (rw (taken, next) (outcome .answered), (rw next (outcome .recorded), rw (c .before .before .before .before .run-turn .ensures .1) (outcome .written)))
+    (rw (taken, next) (outcome .answered), (rw next (outcome .recorded), rw (c .before .before .before .before .run-turn .ensures .1 .0) (outcome .written)))
 
 pub turn-spec : {M : Type 1} → statement M
 turn-spec =

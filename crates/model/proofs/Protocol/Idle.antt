@@ -53,7 +53,7 @@ next-after s node k some = go (eqb (suc m) n) refl
 
 module _ (s log : List ℕ) where
   -- Nobody waits at a tick before the next release.
-  nobody : (k tick until : ℕ) (begins : List ℕ)
+  pub nobody : (k tick until : ℕ) (begins : List ℕ)
       → Quiet log begins until
       → tick < until
       → releases log ≤ first (queueOf s log k tick begins)
@@ -67,7 +67,7 @@ module _ (s log : List ℕ) where
           absurd (omega (arith, quiet i there (waits .unbegun), waits .released))
 
   -- A turn that starts before the next release is silent.
-  silent : (st : State) (until k : ℕ)
+  pub silent : (st : State) (until k : ℕ)
       → 1 ≤ nodes s
       → Quiet log (st .begins) until
       → st .bus .tick + k * slotTicks s < until
@@ -110,7 +110,7 @@ module _ (s log : List ℕ) where
       ∙ ap (run s log horizon fuel) (silent st until k some quiet (omega arith)))
 
   -- No silent turn leaves the bus as it is.
-  none : (st : State) → 1 ≤ st .bus .node → st .bus .node ≤ nodes s → idle s st 0 ≡ st
+  pub none : (st : State) → 1 ≤ st .bus .node → st .bus .node ≤ nodes s → idle s st 0 ≡ st
   none st low high = λ i. record { bus = record { tick = tick i; node = node i; turns = turns i }; begins = st .begins }
     where
       tick : st .bus .tick + 0 * slotTicks s ≡ st .bus .tick

@@ -1,6 +1,6 @@
 -- A turn over a buffer that is longer than the log serves the begin words in its front and leaves the rest. Assumes nothing.
 use Prim.Native.Nat.{ℕ, suc, _+_, _≤_, _<_}
-use mathlib.Core.Path.{_≡_, refl, _∙_, ap}
+use mathlib.Core.Path.{_≡_, refl, sym, _∙_, ap}
 use mathlib.Core.List.{List, [], _∷_, _++_}
 use native.Mathlib.Omega.{arith}
 use lib.ListN.{length, set, take, drop, length-set, take-append-drop, List·getD-append}
@@ -76,3 +76,12 @@ front-served s log k tick m room fits =
       front = ap (λ v. take n (v .begins)) long ∙ take-at after (drop n room) n kept;
       rest = ap (λ v. drop n (v .begins)) long ∙ drop-at after (drop n room) n kept;
     }
+
+-- The same are taken as from its front.
+pub front-takes : (s log : List ℕ) (k tick m : ℕ) (room : List ℕ)
+    → releases log ≤ length room
+    → takenBy s log k tick m room ≡ takenBy s log k tick m (take (releases log) room)
+front-takes s log k tick m room fits =
+    let n : ℕ = releases log in
+    sym (ap (takenBy s log k tick m) (take-append-drop n room))
+    ∙ front-taken s log k tick m (take n room) (drop n room) (length-take-le n room fits)

@@ -11,8 +11,9 @@ use native.Mathlib.Omega.{arith}
 use lib.Dec.{ltb}
 use lib.ListN.{length}
 use borrow.Author.Tests.{ltb-true, ltb-false, lt-ltb, le-ltb}
-use Rattle.model.specs.Sheet.{slotTicks}
+use Rattle.model.specs.Sheet.{slotTicks, budget}
 use Rattle.model.specs.Protocol.{releases, State, turn, stateAt, startOf, TurnsBefore, run, replayed}
+use Rattle.model.proofs.Protocol.Turn.{serve-length}
 use Rattle.model.proofs.Protocol.Clock.{turn-least, next-state, next-start, turns-counted, begins-length}
 
 -- A run from the state before turn i ends in that before turn `count`, and its turns are those that start before the horizon.
@@ -36,6 +37,23 @@ module _ (s log : List ℕ) (horizon : ℕ) where
   unfolding run
   run-done zero st done = refl
   run-done (suc fuel) st done = rw (le-ltb (st .bus .tick) horizon done, run)
+
+  -- A run leaves as many begin words as there were.
+  pub run-length : (fuel : ℕ) (st : State) → length (run s log horizon fuel st .begins) ≡ length (st .begins)
+  unfolding run turn
+  run-length zero st = refl
+  run-length (suc fuel) st = go (ltb (st .bus .tick) horizon) refl (run-length fuel (turn s log st))
+    where
+      go : (b : Bool)
+          → ltb (st .bus .tick) horizon ≡ b
+          → length (run s log horizon fuel (turn s log st) .begins) ≡ length (turn s log st .begins)
+          → length (run s log horizon (suc fuel) st .begins) ≡ length (st .begins)
+      go true early ih =
+          ap (λ end. length (end .begins)) (run-on fuel st early)
+          ∙ ih
+          ∙ serve-length s log (st .bus .node) (st .bus .tick) (budget s (st .bus .node)) (st .begins)
+      go false late ih =
+          ap (λ end. length (end .begins)) (run-done (suc fuel) st (ltb-false (st .bus .tick) horizon late))
 
   module _ (slot : 1 ≤ slotTicks s) where
     -- More fuel than is enough changes nothing.

@@ -64,7 +64,8 @@ module _ (s log : List ℕ) (k tick m : ℕ) (begins : List ℕ) where
   abbrev after : List ℕ
   after = serve s log k tick m begins .begins
 
-  account : Taking m (queueOf s log k tick begins) taken
+  -- The account of those taken.
+  pub account : Taking m (queueOf s log k tick begins) taken
   account = taking m (queueOf s log k tick begins)
 
   -- Where nobody waits, the turn takes nobody and leaves the words.
@@ -108,7 +109,8 @@ module _ (s log : List ℕ) (k tick m : ℕ) (begins : List ℕ) where
     serve-at {p} {i} a =
         begins-at (messageTicks s) tick begins (λ q r j. taken-once account) a (omega (arith, taken-waits account a .0))
 
-    placed : {p i : ℕ} → At taken p i → Placed s log k tick begins after p i
+    -- Who is taken waits at the start and takes its place.
+    pub placed : {p i : ℕ} → At taken p i → Placed s log k tick begins after p i
     placed a = let w = taken-waits account a in record { inLog = w .0; waited = w .1; at = serve-at a }
 
     -- Each place of a turn is taken, by a release that waits at its start and begins at that place's tick.

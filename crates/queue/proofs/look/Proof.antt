@@ -64,10 +64,10 @@ loop-again c =
     let arrived = pre .1 .1 in
     let early = c .before .before .before .before .before .loop-test .taken in
     let line = rw (ap (λ r. r .node) streams, most) at (found .1) in
-    let here = look-next {next = c .before .before .before .look-at .result} {after = c .before .before .before .look-at .last .1 .1 .1 .1 .1 .1 .0} arrived early (l .inv .1 early) (omega (arith, found .0, most)) line (l .inv .3) in (
+    let here = look-next {next = c .before .before .before .look-at .result} {after = c .before .before .before .look-at .last .1 .1 .1 .1 .1 .1 .1 .0} (omega (arith, arrived .inLog, early)) (l .inv .1 early) (omega (arith, found .0, most)) line (l .inv .3) in (
       omega (arith, next .0 .1, arrived .inLog),
       next .1 .1,
-      c .before .before .before .look-at .kept .1 .1 .1 .1 .1 .1 .0 ∙ l .inv .2,
+      c .before .before .before .look-at .kept .1 .1 .1 .1 .1 .1 .1 .0 ∙ l .inv .2,
       look-on (next .0 .0) (λ n low high. waiting-begun (a .sheet .now) (a .log .now) (a .node) (a .tick) (a .room .now) n (next .1 .0 n low high)) here,
     )
 

@@ -7,17 +7,17 @@ use native.Mathlib.Nat.{le-refl}
 use native.Mathlib.Omega.{arith}
 use borrow.Author.Needs.{needs}
 use Rattle.model.specs.Protocol.{releases, releaseTick}
-use Rattle.queue.specs.Queue.{Rising}
+use Rattle.queue.specs.Queue.{RisingFrom}
 use Rattle.bus.proofs.turns.next_event.Statement.{statement}
 use Rattle.bus.proofs.turns.next_event.Tie as tie
 
 -- a release is no earlier than one before it in the log
-no-earlier : (log : List ℕ) (to : ℕ) → Rising log → (i : ℕ) → to ≤ i → i < releases log → releaseTick log to ≤ releaseTick log i
+no-earlier : (log : List ℕ) (to : ℕ) → RisingFrom log to → (i : ℕ) → to ≤ i → i < releases log → releaseTick log to ≤ releaseTick log i
 no-earlier log to rising i after there =
     le-ind
     (λ m. m < releases log → releaseTick log to ≤ releaseTick log m)
     (λ _. le-refl _)
-    (λ m _ ih here. omega (arith, ih (omega arith), rising m here))
+    (λ m low ih here. omega (arith, ih (omega arith), rising m low here))
     i
     after
     there

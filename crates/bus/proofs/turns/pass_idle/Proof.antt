@@ -36,7 +36,7 @@ silent-turns-requires c κs =
 record Soon (tick turns node nodes slot k : ℕ) : Type 0 where
   some : 1 ≤ nodes
   tickTo : tick + k * slot ≤ 1_000_010_000
-  turnsTo : turns + k ≤ 1_000_010_000
+  turnsTo : turns + k ≤ 2_000_010_000
   nodeTo : node + k ≤ 1_000_010_016
 
 soon : (c : tie.After-silent-turns)

@@ -6,18 +6,18 @@ use native.Mathlib.Omega.{arith}
 use borrow.Author.Needs.{needs}
 use lib.ListN.{length}
 use Rattle.model.specs.Sheet.{slotTicks}
-use Rattle.model.specs.Protocol.{releases}
+use Rattle.model.specs.Protocol.{releases, replayed}
 use Rattle.model.proofs.Sheet.ValidSheet.{valid-fits}
 use Rattle.model.proofs.Protocol.Idle.{silent-before}
 use Rattle.queue.specs.Queue.{FirstUnbegun}
 use Rattle.bus.proofs.TurnSteps.{taken-few, clock-moves}
-use Rattle.bus.proofs.RunSteps.{Running, moved-on, running-start, running-on, running-idle, running-done}
+use Rattle.bus.proofs.RunSteps.{Running, moved-on, quiet-front, running-start, running-on, running-idle, running-done}
 use Rattle.bus.proofs.turns.run_to.Statement.{statement}
 use Rattle.bus.proofs.turns.run_to.Tie as tie
 
 abbrev Inv-loop : tie.InvT-loop
 Inv-loop sheet log horizon found₀ room₀ bus₀ header count from₀ to₀ found room bus from to =
-    (length found ≡ length found₀) × Running sheet log horizon room₀ room bus from to
+    (length found ≡ length found₀) × Running sheet log horizon (replayed sheet log horizon) room₀ room bus from to
 
 abbrev μ-loop : tie.MeasureT-loop
 μ-loop sheet log horizon found₀ room₀ bus₀ header count from₀ to₀ found room bus from to = horizon + 1 - bus .tick
@@ -36,7 +36,7 @@ next-unbegun-requires c κs =
     (omega (arith, inv .fromInLog, inv .toInLog), omega (arith, c .before .before .before .before .before .before .before .before .before .pre .0 .3, inv .sameLength))
 
 arrived-by-requires : tie.Need-arrived-by-requires Inv-loop μ-loop
-arrived-by-requires c κs = let inv = c .before .before .before .before .loop .inv .1 in (c .before .before .before .before .before .before .before .before .before .before .pre .0 .1, inv .toInLog, inv .released)
+arrived-by-requires c κs = let inv = c .before .before .before .before .loop .inv .1 in ((λ i low high. c .before .before .before .before .before .before .before .before .before .before .pre .0 .1 i high), inv .toInLog)
 
 -- the turn's starting place: all before it have begun, and the one there has not
 starting : (c : tie.After-arrived-by Inv-loop μ-loop)
@@ -47,7 +47,7 @@ starting c =
     moved-on (inv .begun) (omega (arith, next .0 .1, inv .fromInLog)) (next .1 .0) (next .1 .1)
 
 next-event-requires : tie.Need-next-event-requires Inv-loop μ-loop
-next-event-requires c κs = (c .before .before .before .before .before .before .before .before .before .before .before .before .pre .0 .1, c .before .arrived-by .ensures .0, c .before .before .before .before .if1 .taken)
+next-event-requires c κs = ((λ i low. c .before .before .before .before .before .before .before .before .before .before .before .before .pre .0 .1 i), c .before .arrived-by .ensures .0, c .before .before .before .before .if1 .taken)
 
 pass-idle-requires : tie.Need-pass-idle-requires Inv-loop μ-loop
 pass-idle-requires c κs =
@@ -65,10 +65,11 @@ loop-less c =
 
 loop-again : tie.Need-loop-again Inv-loop μ-loop
 loop-again c =
-    let a = c .before .before .before .before .before .before .before .before .before .before .before .before .before .before .args in (
+    let a = c .before .before .before .before .before .before .before .before .before .before .before .before .before .before .args in
+    let event = c .before .next-event .ensures in (
       c .before .before .before .before .before .before .before .before .loop .inv .0,
       rw (c .pass-idle .ensures)
-          (running-idle (a .sheet .now) (a .log .now) (a .horizon) (starting (c .before .before .before)) (c .before .before .before .arrived-by .ensures .0) (c .before .before .if2 .taken) (c .before .next-event .ensures) (c .before .before .before .before .before .before .before .before .loop .inv .1)),
+          (running-idle (a .sheet .now) (a .log .now) (a .horizon) (starting (c .before .before .before)) (c .before .before .before .arrived-by .ensures .0) (event .later) (event .inRun) (quiet-front (starting (c .before .before .before)) (c .before .before .if2 .taken) event) (c .before .before .before .before .before .before .before .before .loop .inv .1)),
     )
 
 run-turn-requires : tie.Need-run-turn-requires Inv-loop μ-loop
@@ -100,7 +101,7 @@ loop-again-2 c =
     let served = c .before .before .before .before .before .run-turn .ensures in
     let fits : releases (a .log .now) ≤ length (here .room) = omega (arith, c .before .before .before .before .before .before .before .before .before .before .before .before .before .before .before .before .before .before .before .before .pre .0 .3, here .inv .1 .sameLength) in (
       c .before .before .before .before .before .run-turn .kept .1 .1 .1 .1 .1 .1 .0 ∙ here .inv .0,
-      rw (c .next-bus .ensures, served .0, served .1)
+      rw (c .next-bus .ensures, served .0, served .1 .0)
           (running-on (a .sheet .now) (a .log .now) (a .horizon) (c .before .before .before .before .before .before .before .before .before .before .before .before .if1 .taken) fits (starting (c .before .before .before .before .before .before .before .before .before)) (c .before .before .before .before .before .before .before .before .before .arrived-by .ensures .0) (here .inv .1)),
     )
 

@@ -42,7 +42,7 @@ returns c =
     let few = few-sent (a .sheet .now) (a .bus .node) (pre .0 .0) in
     let served = served-by (a .sheet .now) (a .log .now) (a .bus) (a .room .now) (look .ensures .1) in
     let count = length-take-le (look .result) (look .last .1 .1 .1 .1 .1 .1 .1 .0) (omega (arith, look .ensures .0, few, pre .0 .3, look .kept .1 .1 .1 .1 .1 .1 .1 .0)) in
-    (sym count ∙ served .0, (rw (ap (λ h. h .message) (pre .1 .0)) at (c .before .before .begin-messages .ensures)) ∙ served .1)
+    (sym count ∙ served .0, ((rw (ap (λ h. h .message) (pre .1 .0)) at (c .before .before .begin-messages .ensures)) ∙ served .1, look .ensures .1))
 
 pub run-turn-spec : {M : Type 1} → statement M
 run-turn-spec =

@@ -8,18 +8,18 @@ use borrow.Author.Needs.{needs}
 use Rattle.model.specs.Refusal.{firstOf}
 use Rattle.model.specs.Sheet.{totalStreams}
 use Rattle.model.specs.Protocol.{releases}
-use Rattle.model.specs.Answers.{tickBefore, releaseRefusal}
+use Rattle.model.specs.Answers.{tickBefore, pieceReleaseRefusal}
 use Rattle.model.proofs.Sheet.Refusals.{rest, rest-start, rest-on, rest-stop, rest-end}
 use Rattle.log.proofs.reader.check_releases.Statement.{statement}
 use Rattle.log.proofs.reader.check_releases.Tie as tie
 
 abbrev Inv-loop : tie.InvT-loop
-Inv-loop sheet log streams count before₀ i₀ before i =
+Inv-loop sheet log old new streams count before₀ i₀ before i =
     (i ≤ count) × (before ≡ tickBefore log (i + 1)) × (streams ≡ totalStreams sheet)
-    × (rest (releaseRefusal sheet log) i (releases log) ≡ firstOf (releaseRefusal sheet log) 1 (releases log))
+    × (rest (pieceReleaseRefusal sheet old new log) i (releases log) ≡ firstOf (pieceReleaseRefusal sheet old new log) 1 (releases log))
 
 abbrev μ-loop : tie.MeasureT-loop
-μ-loop sheet log streams count before₀ i₀ before i = count - i
+μ-loop sheet log old new streams count before₀ i₀ before i = count - i
 
 word-at-requires : tie.Need-word-at-requires Inv-loop μ-loop
 word-at-requires c κs = search needs
@@ -34,7 +34,7 @@ loop-holds c =
       omega arith,
       refl,
       rw (c .before .word-at .ensures) at (c .streams-up-to .ensures),
-      rest-start (releaseRefusal (a .sheet .now) (a .log .now)) _,
+      rest-start (pieceReleaseRefusal (a .sheet .now) (a .old) (a .new) (a .log .now)) _,
     )
 
 check-release-requires : tie.Need-check-release-requires Inv-loop μ-loop
@@ -45,7 +45,7 @@ check-release-requires c κs =
 returns : tie.Need-returns Inv-loop μ-loop
 returns c =
     let a = c .before .before .before .before .before .before .before .before .before .args in
-    rest-stop (releaseRefusal (a .sheet .now) (a .log .now)) _ _
+    rest-stop (pieceReleaseRefusal (a .sheet .now) (a .old) (a .new) (a .log .now)) _ _
     (c .before .before .before .loop-test .taken)
     (c .before .before .check-release .ensures)
     (c .if1 .taken)
@@ -75,7 +75,7 @@ loop-again c =
       omega arith,
       rw (add-one (i + 1), add-one i) refl,
       inv .2,
-      rest-on (releaseRefusal (a .sheet .now) (a .log .now)) _ _
+      rest-on (pieceReleaseRefusal (a .sheet .now) (a .old) (a .new) (a .log .now)) _ _
           (c .before .before .before .before .loop-test .taken)
           (c .before .before .before .check-release .ensures)
           (c .before .if1 .left)
@@ -85,7 +85,7 @@ loop-again c =
 returns-2 : tie.Need-returns-2 Inv-loop μ-loop
 returns-2 c =
     let a = c .before .before .before .before .before .before .args in
-    rest-end (releaseRefusal (a .sheet .now) (a .log .now)) _ _ (c .loop-test .left) (c .before .loop .inv .3)
+    rest-end (pieceReleaseRefusal (a .sheet .now) (a .old) (a .new) (a .log .now)) _ _ (c .loop-test .left) (c .before .loop .inv .3)
 
 pub check-releases-spec : {M : Type 1} → statement M
 check-releases-spec =

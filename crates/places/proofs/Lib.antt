@@ -1,0 +1,2 @@
+-- Laws that the proofs of the waiting places cite.
+pub mod Writing
