@@ -1,6 +1,7 @@
--- Laws about a replay that is fed piece by piece: what a piece that is not refused was handed, the log of all pieces, and the log that a
--- piece is run over. Opening and RecordWords are about what the code writes: that log with its release numbers, and a record's words.
--- Theorem says that the pieces joined give what the whole log gives, and Applied uses it with numbers.
+-- Laws about a replay that is fed piece by piece. What the code writes: Opening and Opened, the log that a piece is run over with its release
+-- numbers; Keeping, the places of those that still wait; RecordWords, a record's words. Then what a piece that is not refused was handed,
+-- the log of all pieces, and one piece after another. Theorem says that the pieces joined give what the whole log gives, and Applied uses
+-- it with numbers. Outcome and WordsOutcome: what a piece promises, refused and not.
 pub mod Opening
 pub mod RecordWords
 pub mod Taken

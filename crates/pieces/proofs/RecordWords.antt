@@ -1,15 +1,13 @@
--- The record as a table of words: a record's words are read back as that record, and the words of the record in a table are the table's.
--- Assumes nothing.
-use Prim.Native.Nat.{ℕ, suc, _+_, _≤_, _<_}
+-- The record as a table of words: it is written in four parts, and its words are read back as that record. Assumes nothing.
+use Prim.Native.Nat.{ℕ, _+_, _≤_}
 use native.Mathlib.Omega.{arith}
 use mathlib.Core.Path.{_≡_, refl, sym, _∙_, ap}
 use mathlib.Core.List.{List, [], _∷_, _++_, append-nil, append-assoc}
-use lib.ListN.{length, take, drop, length-append, length-drop, take-append-drop, drop-of-length-le}
-use lib.Seq.{length-take-le, take-all, take-at, drop-at, drop-cons, drop-drop}
+use lib.ListN.{length, take, drop, length-append, length-drop, drop-of-length-le}
+use lib.Seq.{length-take-le, take-all, take-at, drop-at, drop-drop}
 use Rattle.theory.specs.Listing.{replacedAt, putFront}
 use Rattle.theory.proofs.Overwriting.{over-more, put-fits}
 use Rattle.model.specs.Limits.{maxWaiting}
-use Rattle.model.specs.Sheet.{word}
 use Rattle.pieces.specs.declared.Checkpoint.{Checkpoint}
 use Rattle.pieces.specs.Words.{checkpointHeader, ticksPlace, streamsPlace, checkpointLength, checkpointIn, checkpointWords}
 
@@ -89,25 +87,6 @@ unfolding checkpointWords
 record-written c old numbers ticks streams full w x y z =
     four-parts old (c .horizon ∷ c .bus .tick ∷ c .bus .node ∷ c .bus .turns ∷ c .releases ∷ c .waiting ∷ []) (c .numbers) (c .ticks) (c .streams)
     checkpointHeader ticksPlace streamsPlace refl (omega arith) (omega arith) (omega arith) w x y z
-
--- A table from a place on, and what comes after it.
-table-then : (words : List ℕ) (at next : ℕ) → at + maxWaiting ≡ next → take maxWaiting (drop at words) ++ drop next words ≡ drop at words
-table-then words at next after =
-    ap (λ rest. take maxWaiting (drop at words) ++ rest) (sym (drop-drop maxWaiting at words ∙ ap (λ n. drop n words) after))
-    ∙ take-append-drop maxWaiting (drop at words)
-
--- The words of the record in a table are the table's.
-pub words-kept : (words : List ℕ) → length words ≡ checkpointLength → checkpointWords (checkpointIn words) ≡ words
-unfolding checkpointWords checkpointIn
-words-kept words full =
-    let next : (i : ℕ) → i < checkpointHeader → word words i ∷ drop (suc i) words ≡ drop i words = λ i low. sym (drop-cons words i 0 (omega arith)) in
-    let last : take maxWaiting (drop streamsPlace words) ≡ drop streamsPlace words = take-all maxWaiting (drop streamsPlace words) (omega (arith, length-drop streamsPlace words)) in
-    let tables : List ℕ = take maxWaiting (drop checkpointHeader words) ++ (take maxWaiting (drop ticksPlace words) ++ take maxWaiting (drop streamsPlace words)) in
-    let rest : tables ≡ drop checkpointHeader words =
-    ap (λ xs. take maxWaiting (drop checkpointHeader words) ++ (take maxWaiting (drop ticksPlace words) ++ xs)) last
-    ∙ ap (λ xs. take maxWaiting (drop checkpointHeader words) ++ xs) (table-then words ticksPlace streamsPlace refl)
-    ∙ table-then words checkpointHeader ticksPlace refl in
-    rw (rest, next 5 (omega arith), next 4 (omega arith), next 3 (omega arith), next 2 (omega arith), next 1 (omega arith), next 0 (omega arith)) refl
 
 -- A record's words are read back as that record.
 pub record-kept : (c : Checkpoint)
