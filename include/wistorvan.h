@@ -1,9 +1,9 @@
 /* The proved planner for C and C++: link libwistorvan.a, which `rt staticlib wistorvan` writes to target/staticlib.
 
    Every function answers any input and asks nothing of its caller beyond what C cannot check: each pointer must be good for
-   the number of words passed with it, a table that is written and a record (the bus, the checkpoint) must not overlap another
-   table, and nothing else may write to a table or a record during the call. With 0 words any pointer is good, NULL too. A
-   refusal changes no word of any table and no field of a record. Nothing is kept between calls.
+   the number of words or stream records passed with it, a table that is written, a list and a record (the bus, the checkpoint)
+   must not overlap another, and nothing else may write to them during the call. With 0 words or records any pointer is good,
+   NULL too. A refusal changes no word of any table and no field of a record. Nothing is kept between calls.
 
    No compiler holds these declarations to the Rattle source, crates/wistorvan/src/lib.rt; a test in rust/ compares their text. */
 #ifndef WISTORVAN_H
@@ -53,9 +53,9 @@ enum wistorvan_number {
     /* A period is not 1 to 1,000,000,000, a deadline not 1 to its period or a jitter not less than its period, on the sheet or in
        the tables (write_sheet), first in sheet order. Place: node, stream. */
     WISTORVAN_BAD_STREAM = 5,
-    /* The room is shorter than one word a stream (admit) or a release (replay, step), than the sheet (write_sheet), than sixteen
-       words, however few the nodes are (find_budgets), or than two words for each message that waits and each release of the
-       piece, begun or not (resume). Place: 0, 0. */
+    /* The room is shorter than one word a stream (admit) or a release (replay, replay_records, step), than the sheet (write_sheet),
+       than sixteen words, however few the nodes are (find_budgets), or than two words for each message that waits and each release
+       of the piece, begun or not (resume); or the list has fewer records than the sheet has streams (replay_records). Place: 0, 0. */
     WISTORVAN_ROOM_TOO_SHORT = 6,
     /* A stream is late: a message of it could be delivered after its deadline, which runs from its event, jitter ticks before its
        queuing at most (delivery is when its turn's protocol slot ends). The first in sheet order (admit) or the asked one
@@ -95,6 +95,14 @@ struct wistorvan_bus {
     uint32_t turns;
 };
 
+/* What a replay has seen of one stream: its messages begun, the longest of their waits, in ticks from queuing to begin, and how many
+   of them waited longer than the stream's listed wait. A late stream has no listed wait, and its last number stays 0. */
+struct wistorvan_stream_record {
+    uint32_t begun;
+    uint32_t longest;
+    uint32_t over;
+};
+
 /* A replay between two pieces of its log. A release that waits has its number in the whole log, from 1, its tick and the running
    number of its stream; those that wait stand in log order from place 0, and after a piece every place past them is 0. The
    replay starts at WISTORVAN_FRESH_CHECKPOINT. */
@@ -124,6 +132,13 @@ struct wistorvan_answer wistorvan_admit(const uint32_t *sheet, size_t sheet_word
    Refusals 1 to 5, 9, 10, 6. */
 struct wistorvan_answer wistorvan_replay(const uint32_t *sheet, size_t sheet_words, const uint32_t *log, size_t log_words,
                                          uint32_t horizon, uint32_t *room, size_t room_words);
+
+/* The same, with a record of each stream beside the begin ticks, in sheet order in the first places of the list; the records past
+   them stay. Whether a stream is late is judged stream by stream, and also where the sheet would not be admitted. A list of
+   WISTORVAN_MAX_STREAMS records is long enough. Refusals 1 to 5, 9, 10, 6, and then 6 where the list is shorter than the streams. */
+struct wistorvan_answer wistorvan_replay_records(const uint32_t *sheet, size_t sheet_words, const uint32_t *log, size_t log_words,
+                                                 uint32_t horizon, uint32_t *room, size_t room_words,
+                                                 struct wistorvan_stream_record *records, size_t records_count);
 
 /* One turn of the record's node: messages taken and the tick the next turn starts. The room has a word for each release, in log
    order: those that are WISTORVAN_NOT_BEGUN wait, and the begins of this turn are written. The record is set to the next turn.

@@ -8,7 +8,8 @@ use std::hint::black_box;
 use peer::Lent;
 use wistorvan::{Checkpoint, MAX_WAITING, NOT_BEGUN};
 
-use crate::{even_log, first_releases, loaded, median, morning, sheet, Traffic, SHEET_A};
+use crate::replay::{even_log, first_releases, loaded, morning, Traffic, SHEET_A};
+use crate::{median, sheet};
 
 /// The most releases of a piece.
 const RELEASES: usize = 64;

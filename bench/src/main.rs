@@ -1,7 +1,7 @@
 //! Times the proved library beside the second program, both built for
 //! release, in one run: `bench admit`, `bench search`, `bench hardest`,
-//! `bench replay`, `bench feed`, `bench write`, `bench budgets`. Each figure is
-//! the median of nine runs over the same inputs (`bench search` and `bench hardest` time the
+//! `bench replay`, `bench records`, `bench feed`, `bench write`, `bench budgets`.
+//! Each figure is the median of nine runs over the same inputs (`bench search` and `bench hardest` time the
 //! second program, which searches for J one by one, in one run); rooms are not
 //! cleared between runs. `bench slowest WHAT SECONDS SEED` looks for sheets on
 //! which the proved search is slow: WHAT is `stream`, `sheet` or `budgets`.
@@ -11,6 +11,8 @@
 mod budgets;
 mod command;
 mod feed;
+mod records;
+mod replay;
 mod search;
 mod slowest;
 
@@ -142,188 +144,6 @@ fn admit_pair(what: &str, part: Option<u32>) {
     print_pair(what, sheets.len() as f64, proved, second);
 }
 
-/// Times one replay by both, and prints it for a turn of the second program.
-fn replay_pair(what: &str, sheet: &[u32], log: &[u32], horizon: u32) {
-    let mut room = vec![0u32; log.len() / 2];
-    let answer = wistorvan::raw::replay(sheet, log, horizon, &mut room);
-    assert_eq!(answer.number, 0);
-    let proved = median(|| {
-        black_box(wistorvan::raw::replay(
-            black_box(sheet),
-            black_box(log),
-            horizon,
-            &mut room,
-        ));
-    });
-    let second = median(|| {
-        black_box(peer::replay(
-            black_box(sheet),
-            black_box(log),
-            horizon,
-            &mut room,
-        ));
-    });
-    println!(
-        "{what}: proved {:.3} ms, second program {:.3} ms ({:.2} ns a turn, {} turns), second / proved {:.2}",
-        proved / 1e6,
-        second / 1e6,
-        second / f64::from(answer.second.max(1)),
-        answer.second,
-        second / proved
-    );
-}
-
-/// So many releases of sheet A's streams in turn, spread evenly.
-fn even_log(releases: u32, horizon: u32) -> Vec<u32> {
-    let apart = horizon / releases;
-    (0..releases).flat_map(|i| [i * apart, 1 + i % 3]).collect()
-}
-
-/// Streams that release at their periods from tick 0 up to a horizon.
-fn periodic_log(periods: &[u32], horizon: u32) -> Vec<u32> {
-    let mut releases: Vec<(u32, u32)> = (1..)
-        .zip(periods)
-        .flat_map(|(stream, &period)| (0..horizon / period).map(move |i| (i * period, stream)))
-        .collect();
-    releases.sort();
-    releases
-        .iter()
-        .flat_map(|&(tick, stream)| [tick, stream])
-        .collect()
-}
-
-/// What is replayed: a sheet, a log and a horizon.
-struct Traffic {
-    sheet: Vec<u32>,
-    log: Vec<u32>,
-    horizon: u32,
-}
-
-/// Three streams up to a horizon: messages and their slots take nine tenths of
-/// the time.
-fn loaded(horizon: u32) -> Traffic {
-    Traffic {
-        sheet: sheet(5, 1, &[(1, vec![(25, 25), (40, 40)]), (2, vec![(12, 12)])]),
-        log: periodic_log(&[25, 40, 12], horizon),
-        horizon,
-    }
-}
-
-/// A morning on a full line: sixteen nodes of four streams, whose messages and
-/// slots take two thirds of the time.
-fn morning() -> Traffic {
-    let periods: Vec<u32> = (0..64).map(|i| 404 + 6 * i).collect();
-    let nodes: Vec<(u32, Vec<(u32, u32)>)> = periods
-        .chunks(4)
-        .map(|own| (2, own.iter().map(|&period| (period, period)).collect()))
-        .collect();
-    let log = periodic_log(&periods, 40_000);
-    first_releases(sheet(5, 1, &nodes), log)
-}
-
-/// The first 4,096 releases of a log, up to a horizon some time after the last.
-fn first_releases(sheet: Vec<u32>, mut log: Vec<u32>) -> Traffic {
-    log.truncate(2 * 4096);
-    let horizon = log[log.len() - 2] + 1_000;
-    Traffic {
-        sheet,
-        log,
-        horizon,
-    }
-}
-
-fn replay_loaded() {
-    let Traffic {
-        sheet,
-        log,
-        horizon,
-    } = loaded(22_800);
-    replay_pair("a bus loaded to nine tenths", &sheet, &log, horizon);
-}
-
-fn replay_sixteen_nodes() {
-    let Traffic {
-        sheet,
-        log,
-        horizon,
-    } = morning();
-    let what = "a morning of 4,096 releases, sixteen nodes";
-    replay_pair(what, &sheet, &log, horizon);
-}
-
-/// All releases come at tick 0: to many nodes, so that most looks at a release
-/// pass it, and to one node, so that each look compares two streams.
-fn replay_backlogs() {
-    let nodes: Vec<(u32, Vec<(u32, u32)>)> = (0..16).map(|_| (4, vec![(1000, 1000); 16])).collect();
-    for (releases, name) in [(256, "256"), (1024, "1,024"), (4096, "4,096")] {
-        let flood: Vec<u32> = (0..releases).flat_map(|i| [0, 1 + i % 256]).collect();
-        replay_pair(
-            &format!("a backlog of {name} at tick 0, sixteen nodes"),
-            &sheet(5, 1, &nodes),
-            &flood,
-            1_000_000,
-        );
-    }
-    let mut random = Random(20_261_116);
-    let mut near = |ticks: u32| ticks + random.below(1_000) as u32;
-    let streams = (0..16).map(|_| (near(100_000), near(50_000))).collect();
-    let rivals: Vec<u32> = (0..1024).flat_map(|_| [0, 1 + near(0) % 16]).collect();
-    replay_pair(
-        "a backlog of 1,024 at tick 0, one node of sixteen streams",
-        &sheet(5, 1, &[(4, streams)]),
-        &rivals,
-        1_000_000,
-    );
-}
-
-/// The longest replay found: all wait for the last of sixteen nodes, which
-/// takes one a turn and the first release last, so that each turn of every
-/// node passes all of them.
-fn replay_longest() {
-    let mut nodes = vec![(1, vec![(1_000, 1_000)]); 15];
-    nodes.push((1, vec![(1_000, 900), (1_000, 1_000)]));
-    let mut log: Vec<u32> = [0, 16].repeat(4096);
-    log[1] = 17;
-    replay_pair(
-        "4,096 at tick 0 for one of sixteen nodes, budget 1",
-        &sheet(5, 1, &nodes),
-        &log,
-        1_000_000,
-    );
-}
-
-const SHEET_A: [u32; 18] = [2, 5, 1, 9, 2, 1, 15, 1, 2, 40, 40, 0, 60, 60, 0, 30, 30, 0];
-
-fn replay() {
-    let far = 1_000_000_000;
-    replay_pair(
-        "sheet A, 4,096 releases evenly, horizon 10^9",
-        &SHEET_A,
-        &even_log(4096, far),
-        far,
-    );
-    replay_loaded();
-    replay_sixteen_nodes();
-    replay_backlogs();
-    replay_longest();
-    for horizon in [1_000_000, 10_000_000, 100_000_000, far] {
-        replay_pair(
-            &format!("4,096 releases, horizon {horizon}"),
-            &SHEET_A,
-            &even_log(4096, horizon),
-            horizon,
-        );
-    }
-    for releases in [16, 64, 256, 1024, 4096] {
-        replay_pair(
-            &format!("{releases} releases, horizon 10^8"),
-            &SHEET_A,
-            &even_log(releases, 100_000_000),
-            100_000_000,
-        );
-    }
-}
-
 /// A sheet is written so many times a run, since once takes too short a time.
 const WRITES: usize = 10_000;
 
@@ -406,7 +226,7 @@ fn look(asked: Option<&str>) -> bool {
 }
 
 fn usage() -> ExitCode {
-    eprintln!("usage: bench admit | search | hardest | replay | feed | write | budgets");
+    eprintln!("usage: bench admit | search | hardest | replay | records | feed | write | budgets");
     eprintln!("       bench slowest stream|sheet|budgets SECONDS SEED");
     eprintln!("       bench command SECONDS SEED");
     ExitCode::from(2)
@@ -418,7 +238,8 @@ fn main() -> ExitCode {
         Some("admit") => admit(),
         Some("search") => search::search(),
         Some("hardest") => search::hardest(),
-        Some("replay") => replay(),
+        Some("replay") => replay::replay(),
+        Some("records") => records::records(),
         Some("feed") => feed::feed(),
         Some("write") => write(),
         Some("budgets") => budgets::budgets(),

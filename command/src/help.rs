@@ -22,7 +22,7 @@ Usage: wistorvan SUBCOMMAND ...
   budgets LINE [--with RECORDER] [--write NEW] [--json]
       the least budgets with which no stream is late
   replay LINE LOG [--with RECORDER] [--until TIME] [--json]
-      when each message of a log begins, beside its listed wait
+      when each message of a log begins, beside its listed wait; also by stream
   words LINE [--with RECORDER] [--output FILE]
       the line as a sheet of 32-bit words
   text SHEET [--tick LENGTH]
@@ -86,7 +86,9 @@ LOG has a release a line: its time, a comma, semicolon, tab or spaces, and
 NODE.STREAM. A time has a unit, or is in the unit of LINE; a first line as
 time_ms,stream names another. Each message's wait stands beside the listed wait
 of its stream, which it cannot exceed while the stream and those ranked above it
-in its node keep their periods and jitters. Times are those of queuing.
+in its node keep their periods and jitters. Times are those of queuing. A second
+table has for each stream how many messages have begun, the longest of their
+waits so far, the listed wait, or late, and how many waited longer.
 
   --with RECORDER  adds the node of this file as the last
   --until TIME     replays up to this time; without it, up to the last begin

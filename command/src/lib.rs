@@ -21,6 +21,7 @@ mod log;
 mod output;
 mod plan;
 mod reader;
+mod records;
 mod refusals;
 mod replay;
 mod replay_report;

@@ -1,7 +1,8 @@
-//! `replay`: when each message of a log begins, and whether it waited longer
-//! than its listed wait.
+//! `replay`: when each message of a log begins, whether it waited longer than
+//! its listed wait, and the record of each stream.
 
-use wistorvan::{begun, replay as replay_sheet, Reason, Refusal};
+use wistorvan::{begun, replay as replay_sheet, replay_with_records};
+use wistorvan::{Reason, Refusal, StreamRecord, MAX_STREAMS};
 
 use crate::duration::Duration;
 use crate::fault::{internal, Failure, Fault, Refused};
@@ -56,12 +57,23 @@ impl Message {
     }
 }
 
+/// A stream of the line, and the library's record of it.
+#[derive(Clone, Copy, PartialEq, Eq, Debug)]
+pub struct Stream {
+    pub place: Place,
+    /// None if it is late.
+    pub listed: Option<u32>,
+    pub record: StreamRecord,
+}
+
 /// A replay of a log up to a horizon.
 pub struct Replayed {
     pub horizon: u32,
     pub turns: u32,
     pub next: u32,
     pub messages: Vec<Message>,
+    /// In sheet order.
+    pub streams: Vec<Stream>,
 }
 
 impl Replayed {
@@ -71,11 +83,18 @@ impl Replayed {
         judged.min_by_key(|message| message.left())
     }
 
+    /// How many messages waited longer than listed: those begun are the
+    /// records', which leave out what has not begun.
     pub fn over(&self) -> usize {
-        self.messages
+        let begun = self
+            .streams
             .iter()
-            .filter(|message| message.over())
-            .count()
+            .map(|stream| stream.record.over as usize);
+        let waiting = self
+            .messages
+            .iter()
+            .filter(|message| message.begin.is_none() && message.over());
+        begun.sum::<usize>() + waiting.count()
     }
 }
 
@@ -122,17 +141,25 @@ pub fn ask(loaded: &Loaded, log: &Log, until: Option<Until>) -> Result<Replayed,
             last_begin(longest.begins).map_or(0, |last| last.saturating_add(1).min(LONGEST))
         }
     };
-    let replayed = replay_sheet(sheet, &words, horizon, &mut room);
-    let replayed = replayed.map_err(|refusal| refused(loaded, log, until, refusal))?;
+    let mut list = [StreamRecord::default(); MAX_STREAMS];
+    let recorded = replay_with_records(sheet, &words, horizon, &mut room, &mut list);
+    let recorded = recorded.map_err(|refusal| refused(loaded, log, until, refusal))?;
     let listed = listed_waits(&loaded.plan, &loaded.sheet)?;
-    let releases = log.releases.iter().zip(replayed.begins);
+    let releases = log.releases.iter().zip(recorded.begins);
     let messages =
         releases.filter_map(|(release, begin)| message(release, begun(*begin), horizon, &listed));
+    let streams = listed.iter().zip(recorded.records);
+    let streams = streams.map(|(&(place, listed), &record)| Stream {
+        place,
+        listed,
+        record,
+    });
     Ok(Replayed {
         horizon,
-        turns: replayed.turns,
-        next: replayed.next,
+        turns: recorded.turns,
+        next: recorded.next,
         messages: messages.collect(),
+        streams: streams.collect(),
     })
 }
 
@@ -282,7 +309,33 @@ mod tests {
             turns: 0,
             next: 0,
             messages,
+            streams: vec![],
         };
         assert_eq!(replayed.worst(), replayed.messages.get(2));
+    }
+    #[test]
+    fn those_over_are_the_records_and_what_has_not_begun() {
+        let stream = |over| Stream {
+            place: (0, 0),
+            listed: Some(16),
+            record: StreamRecord {
+                begun: 5,
+                longest: 40,
+                over,
+            },
+        };
+        let replayed = Replayed {
+            horizon: 30,
+            turns: 0,
+            next: 0,
+            messages: vec![
+                message(Some(27), Some(16), 17),
+                message(None, Some(16), 20),
+                message(None, Some(16), 16),
+                message(None, None, 20),
+            ],
+            streams: vec![stream(3), stream(0), stream(1)],
+        };
+        assert_eq!(replayed.over(), 5);
     }
 }

@@ -9,6 +9,7 @@ use crate::json::{self, Value};
 use crate::line::Line;
 use crate::load::Loaded;
 use crate::log::{self, Log};
+use crate::records;
 use crate::replay::{self, Message, Replayed, Until};
 use crate::report::{
     cell, first_fields, queued_note, rounded_notes, rounded_value, section, some_names, tick_value,
@@ -64,6 +65,7 @@ impl ReplayReport<'_> {
             turns,
             next,
             messages,
+            streams,
         } = &self.replayed;
         let worst = self.replayed.worst();
         let mut fields = first_fields("replay", yes, self.line);
@@ -81,6 +83,7 @@ impl ReplayReport<'_> {
                 "worst",
                 json::optional(&worst, |message| self.message_value(message)),
             ),
+            ("records", records::value(self.line, streams)),
             ("rounded", rounded_value(&self.line.rounded)),
             ("rounded_times", Value::number(self.log.rounded as u64)),
         ]);
@@ -106,8 +109,9 @@ impl ReplayReport<'_> {
 
     fn text(&self) -> String {
         let sentences = self.sentences().join("\n");
+        let records = records::rows(self.line, &self.replayed.streams);
         let notes = section("Notes:", &self.notes());
-        format!("{sentences}\n\n{}{notes}", self.rows())
+        format!("{sentences}\n\n{}\n{records}{notes}", self.rows())
     }
 
     fn count(&self, of: impl Fn(&Message) -> bool) -> usize {

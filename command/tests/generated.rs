@@ -48,6 +48,7 @@ struct Seen {
     budgets_written: usize,
     replayed: usize,
     waited_too_long: usize,
+    recorded_too_long: usize,
     unlisted: usize,
 }
 
@@ -172,7 +173,7 @@ fn written_holds(case: &Case, ticks: &Ticks, seen: &mut Seen) -> Held {
     )
 }
 
-/// Begins, turns and listed waits of a generated log are the library's.
+/// Begins, turns, listed waits and records of a generated log are the library's.
 fn replay_holds(
     case: &Case,
     ticks: &Ticks,
@@ -187,6 +188,7 @@ fn replay_holds(
     let outcome = messages_hold(&said, &case.line, ticks, sheet, &log)?;
     seen.replayed += 1;
     seen.waited_too_long += usize::from(outcome.over);
+    seen.recorded_too_long += usize::from(outcome.recorded);
     seen.unlisted += usize::from(outcome.unlisted);
     let no = outcome.over || outcome.unlisted;
     equal(
@@ -281,6 +283,7 @@ fn generated_lines_get_the_answers_of_the_library() {
     assert!(
         seen.replayed > 1_000
             && seen.waited_too_long > 100
+            && seen.recorded_too_long > 100
             && seen.unlisted > 100
             && seen.budgets_written > 500,
         "{seen:?}"

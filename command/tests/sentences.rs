@@ -269,13 +269,57 @@ fn late_streams_in_a_replay_are_told_apart() {
 }
 
 #[test]
+fn records_in_a_replay() {
+    let records = |nodes: &str, log: &str, until: &str, status| -> Vec<String> {
+        let file = file("records.txt", &line(nodes));
+        let said = said(&["replay", &file, "-", "--until", until], log, status);
+        let table = said.lines().skip_while(|line| !line.starts_with("stream "));
+        table
+            .take_while(|line| !line.is_empty())
+            .map(str::to_string)
+            .collect()
+    };
+    let burst = "0 a.b\n0 a.b\n0 a.b\n0 a.b\n0 a.c\n1 d.e\n31 d.e\n";
+    assert_eq!(
+        records(SHEET_A, burst, "70", 1),
+        [
+            "stream  begun  longest so far  listed wait  over",
+            "a.b         4        26 ticks     16 ticks     2",
+            "a.c         1        38 ticks     33 ticks     1",
+            "d.e         2         5 ticks     16 ticks     0",
+        ]
+    );
+    // What has not begun is in no record, also where it has waited too long.
+    assert_eq!(
+        records(SHEET_A, burst, "20", 1)[1..],
+        [
+            "a.b         3        19 ticks     16 ticks     1",
+            "a.c         0               -     33 ticks     0",
+            "d.e         1         5 ticks     16 ticks     0",
+        ]
+    );
+    let late = SHEET_A
+        .replace("deadline 60", "deadline 38")
+        .replace("deadline 40", "deadline 38");
+    assert_eq!(
+        records(&late, burst, "70", 1)[1..],
+        [
+            "a.b         4        26 ticks     16 ticks     2",
+            "a.c         1        38 ticks         late     -",
+            "d.e         2         5 ticks     16 ticks     0",
+        ]
+    );
+    let none = records("node a budget 1", "", "5", 0);
+    assert_eq!(none, ["stream  begun  longest so far  listed wait  over"]);
+}
+
+#[test]
 fn times_of_a_log() {
     let file = file("log-times.txt", "tick 0.1 ms\nmessage 0.5 ms\nslot 0.1 ms\nnode a budget 1\nstream b period 1 s deadline 1 s");
     let queued = |log: &str| -> Vec<String> {
         let said = said(&["replay", &file, "-"], log, 0);
-        let rows = said
-            .lines()
-            .filter(|line| line.contains("a.b") && !line.starts_with("Yes"));
+        let rows = said.lines().skip_while(|line| !line.is_empty());
+        let rows = rows.skip(2).take_while(|line| !line.is_empty());
         rows.map(|line| line.trim().split("  ").next().unwrap().to_string())
             .collect()
     };

@@ -117,6 +117,7 @@ fn replay() {
     );
     assert_eq!(answer.keys(), top("replay"));
     assert_eq!(first(&answer, "messages").keys(), item("`messages`", "[{"));
+    assert_eq!(first(&answer, "records").keys(), item("`records`", "[{"));
     assert_eq!(
         answer.get("worst").unwrap().keys(),
         item("`messages`", "[{")

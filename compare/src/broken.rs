@@ -1,16 +1,18 @@
 //! The proved library against variants of the second program that make the
 //! errors listed in document 01, go by a wrong rank, write a sheet wrongly,
 //! start a search at a wrong place, judge by a wrong late test, jump wrongly in
-//! the search for J, search wrongly for budgets, use the jitter wrongly, or
-//! replay pieces wrongly. Each of them has to differ somewhere.
+//! the search for J, search wrongly for budgets, use the jitter wrongly, replay
+//! pieces wrongly, or record streams wrongly. Each of them has to differ
+//! somewhere.
 
 use peer::broken;
-use peer::generate::{budgets_case, case, made_up_case, pieces_case, tables_case};
-use peer::generate::{BudgetsCase, Case, Piece, PiecesCase, TablesCase};
+use peer::generate::{budgets_case, case, made_up_case, pieces_case, records_case, tables_case};
+use peer::generate::{BudgetsCase, Case, Piece, PiecesCase, RecordsCase, TablesCase};
 use peer::Checkpoint;
 
 use crate::budgets::{found_by_proved, found_by_second, Find};
 use crate::pieces::{resumed_by_proved, resumed_by_second, Resume};
+use crate::records::{recorded_by_proved, recorded_by_second, Records};
 use crate::step::{stepped_by_proved, stepped_by_second, Step};
 use crate::tally::Outcome;
 use crate::writer::{written_by_proved, written_by_second, Writer};
@@ -23,9 +25,10 @@ enum Entry {
     Step(Step),
     Find(Find),
     Resume(Resume),
+    Records(Records),
 }
 
-const VARIANTS: [(&str, Entry); 69] = [
+const VARIANTS: [(&str, Entry); 84] = [
     (
         "1, releases counted by ceiling",
         Entry::Admit(broken::admit_by_ceiling),
@@ -302,6 +305,66 @@ const VARIANTS: [(&str, Entry); 69] = [
         "69, refusal 6 before refusal 12",
         Entry::Resume(broken::resume_room_before_places),
     ),
+    (
+        "70, a wait as long as listed counted",
+        Entry::Records(broken::records_counting_equal),
+    ),
+    (
+        "71, a late stream counted",
+        Entry::Records(broken::records_counting_late),
+    ),
+    (
+        "72, the last wait for the longest",
+        Entry::Records(broken::records_of_last_wait),
+    ),
+    (
+        "73, waits up to the end of the message",
+        Entry::Records(broken::records_to_the_end),
+    ),
+    (
+        "74, one counted, however many waited longer",
+        Entry::Records(broken::records_marking_only),
+    ),
+    (
+        "75, no stream judged where one is late",
+        Entry::Records(broken::records_if_admitted),
+    ),
+    (
+        "76, another stream's record changed",
+        Entry::Records(broken::records_of_the_next),
+    ),
+    (
+        "77, the whole list zeroed",
+        Entry::Records(broken::records_zeroing_all),
+    ),
+    (
+        "78, the record of a silent stream kept",
+        Entry::Records(broken::records_kept_if_none),
+    ),
+    (
+        "79, the list zeroed before the last refusal",
+        Entry::Records(broken::records_zeroed_early),
+    ),
+    (
+        "80, begins written before the list is found short",
+        Entry::Records(broken::records_after_begins),
+    ),
+    (
+        "81, the list before the horizon",
+        Entry::Records(broken::records_list_before_horizon),
+    ),
+    (
+        "82, the list before the log",
+        Entry::Records(broken::records_list_before_log),
+    ),
+    (
+        "83, waits held to the deadline",
+        Entry::Records(broken::records_over_deadline),
+    ),
+    (
+        "84, only the last turn's messages in the list",
+        Entry::Records(broken::records_of_last_turn),
+    ),
 ];
 
 /// A case of each kind.
@@ -311,6 +374,7 @@ struct Cases {
     budgets: BudgetsCase,
     /// From a fresh record, and from a made-up one.
     pieces: [PiecesCase; 2],
+    records: RecordsCase,
 }
 
 impl Cases {
@@ -320,6 +384,7 @@ impl Cases {
             tables: tables_case(seed, index),
             budgets: budgets_case(seed, index),
             pieces: [pieces_case(seed, index), made_up_case(seed, index)],
+            records: records_case(seed, index),
         }
     }
 }
@@ -368,6 +433,7 @@ fn differences(cases: &Cases) -> [Option<(Outcome, Outcome)>; VARIANTS.len()] {
     let write = written_by_proved(tables, room);
     let step = stepped_by_proved(case);
     let find = found_by_proved(&cases.budgets);
+    let records = recorded_by_proved(&cases.records);
     let resumed: Vec<Resumed> = cases.pieces.iter().flat_map(resumed).collect();
     VARIANTS.each_ref().map(|(_, entry)| {
         let (good, bad) = match entry {
@@ -379,6 +445,7 @@ fn differences(cases: &Cases) -> [Option<(Outcome, Outcome)>; VARIANTS.len()] {
             Entry::Write(entry) => (&write, written_by_second(*entry, tables, room)),
             Entry::Step(entry) => (&step, stepped_by_second(*entry, case)),
             Entry::Find(entry) => (&find, found_by_second(*entry, &cases.budgets)),
+            Entry::Records(entry) => (&records, recorded_by_second(*entry, &cases.records)),
             Entry::Resume(entry) => return resumed_otherwise(*entry, &resumed),
         };
         (*good != bad).then(|| (good.clone(), bad))
@@ -422,5 +489,6 @@ pub fn one(seed: u64, index: u64) -> bool {
     println!("and {:?}", cases.tables);
     println!("and {:?}", cases.budgets);
     println!("and {:?}", cases.pieces);
+    println!("and {:?}", cases.records);
     found.iter().any(Option::is_some)
 }

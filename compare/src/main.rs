@@ -7,6 +7,7 @@ mod budgets;
 mod far;
 mod pieces;
 mod programs;
+mod records;
 mod step;
 mod tally;
 mod writer;
@@ -15,17 +16,19 @@ use std::io;
 use std::process::ExitCode;
 
 use budgets::compare_budgets;
-use peer::generate::{budgets_case, case, made_up_case, pieces_case, tables_case};
-use peer::generate::{named, named_budgets, named_pieces, named_tables};
-use peer::generate::{BudgetsCase, Case, PiecesCase, TablesCase};
+use peer::generate::{budgets_case, case, made_up_case, pieces_case, records_case, tables_case};
+use peer::generate::{named, named_budgets, named_pieces, named_records, named_tables};
+use peer::generate::{BudgetsCase, Case, PiecesCase, RecordsCase, TablesCase};
 use peer::read_tables;
 use peer::stats::{
     event_names, found_names, jitter_names, kinds_of_jitters, late_name, sheet_fault,
 };
 use pieces::compare_pieces;
 use programs::{Programs, CHANGES};
+use records::compare_records;
 use step::{compare_step, compare_steps};
-use tally::{expected_pieces, jitters, searches, Outcome, Tally, EXPECTED, FAR};
+use tally::{expected_pieces, expected_records, jitters, searches};
+use tally::{Outcome, Tally, EXPECTED, FAR};
 use writer::{compare_tables, compare_written_again};
 
 const USAGE: &str =
@@ -35,6 +38,7 @@ const USAGE: &str =
        compare SEED INDEX named tables (one of the named tables again)
        compare SEED INDEX named budgets (one of the named budgets again)
        compare SEED INDEX named pieces (one of the named replays by pieces again)
+       compare SEED INDEX named records (one of the named replays with records again)
        compare SEED COUNT broken (against the broken variants)
        compare SEED INDEX broken one (one case of each kind again, against those)
 ";
@@ -45,8 +49,8 @@ const PROGRAMS_EVERY: u64 = 100;
 const FAR_PROGRAMS: u64 = 400;
 
 /// So many generated cases must have all far numbers, all long searches, all
-/// kinds of rows, of jitters and of pieces among them; fewer may leave them to
-/// the named cases.
+/// kinds of rows, of jitters, of pieces and of lists among them; fewer may leave
+/// them to the named cases.
 const FAR_CASES: u64 = 5_000;
 
 /// Runs an entry of the second program on a copy of the room.
@@ -166,6 +170,7 @@ fn run_all(seed: u64, count: u64) -> io::Result<Tally> {
         compare_budgets(&mut tally, &name, &budgets_case(seed, index));
         compare_pieces(&mut tally, &name, &pieces_case(seed, index));
         compare_pieces(&mut tally, &name, &made_up_case(seed, index));
+        compare_records(&mut tally, &name, &records_case(seed, index));
         if index % PROGRAMS_EVERY == 0 {
             let change = (index / PROGRAMS_EVERY) as usize % CHANGES.len();
             programs.compare(&mut tally, &name, &case, &CHANGES[change..=change])?;
@@ -180,6 +185,7 @@ fn run_all(seed: u64, count: u64) -> io::Result<Tally> {
         tally.expect(&searches());
         tally.expect(&jitters());
         tally.expect(&expected_pieces());
+        tally.expect(&expected_records());
     }
     for (index, (name, case)) in named().iter().enumerate() {
         let name = format!("{name}: `compare {seed} {index} named`");
@@ -196,6 +202,10 @@ fn run_all(seed: u64, count: u64) -> io::Result<Tally> {
     for (index, (name, pieces)) in named_pieces().iter().enumerate() {
         let name = format!("{name}: `compare {seed} {index} named pieces`");
         compare_pieces(&mut tally, &name, pieces);
+    }
+    for (index, (name, records)) in named_records().iter().enumerate() {
+        let name = format!("{name}: `compare {seed} {index} named records`");
+        compare_records(&mut tally, &name, records);
     }
     tally.expect(&FAR);
     tally.expect(&searches());
@@ -218,6 +228,7 @@ struct Again {
     budgets: Option<BudgetsCase>,
     pieces: Option<PiecesCase>,
     made_up: Option<PiecesCase>,
+    records: Option<RecordsCase>,
 }
 
 impl Again {
@@ -229,6 +240,7 @@ impl Again {
             budgets: Some(budgets_case(seed, index)),
             pieces: Some(pieces_case(seed, index)),
             made_up: Some(made_up_case(seed, index)),
+            records: Some(records_case(seed, index)),
         }
     }
 
@@ -240,6 +252,7 @@ impl Again {
             ["tables"] => pick(named_tables(), index, &mut again.tables)?,
             ["budgets"] => pick(named_budgets(), index, &mut again.budgets)?,
             ["pieces"] => pick(named_pieces(), index, &mut again.pieces)?,
+            ["records"] => pick(named_records(), index, &mut again.records)?,
             _ => return None,
         };
         Some((name, again))
@@ -259,6 +272,9 @@ impl Again {
         }
         for pieces in [&self.pieces, &self.made_up].into_iter().flatten() {
             compare_pieces(&mut tally, name, pieces);
+        }
+        if let Some(records) = &self.records {
+            compare_records(&mut tally, name, records);
         }
         Ok(tally.report())
     }

@@ -3,6 +3,7 @@
 use std::collections::{BTreeMap, BTreeSet};
 use std::fmt::Debug;
 
+use peer::stats::LIST_NAMES;
 use peer::stats::{EVENT_NAMES, IN_TIME_NAMES, JITTER_FAULTS, JITTER_NAMES, TOO_LATE_NAMES};
 use peer::stats::{FOUND_NAMES, LATE_NAMES, NO_ROW_NAMES, ROW_NAMES};
 use peer::stats::{HORIZON_FAULTS, JOINED_NAMES, PIECE_FAULTS, PIECE_NAMES, RECORD_FAULTS};
@@ -11,7 +12,7 @@ use crate::far;
 
 /// An entry, the number it answered, and the kind of place, what was far, what
 /// the search for J or for budgets came to, what a jitter was or did, or what a
-/// piece, or pieces joined, had or came to.
+/// piece, pieces joined, or a list of records had or came to.
 pub type Kind = (&'static str, u32, &'static str);
 
 /// The far numbers that a whole run must have met.
@@ -70,13 +71,18 @@ pub fn expected_pieces() -> Vec<Kind> {
     .concat()
 }
 
+/// What a whole run must have met of lists of stream records.
+pub fn expected_records() -> Vec<Kind> {
+    of("records", 0, &LIST_NAMES)
+}
+
 fn of(entry: &'static str, number: u32, names: &[&'static str]) -> Vec<Kind> {
     let kinds = names.iter().map(|&name| (entry, number, name));
     kinds.collect()
 }
 
 /// The answers that a whole run must have met.
-pub const EXPECTED: [Kind; 97] = [
+pub const EXPECTED: [Kind; 108] = [
     ("sheet", 0, "success"),
     ("sheet", 1, "0 0"),
     ("sheet", 2, "0 0"),
@@ -153,6 +159,17 @@ pub const EXPECTED: [Kind; 97] = [
     ("resume", 10, "0 0"),
     ("resume", 12, "0 0"),
     ("resume", 16, "0 0"),
+    ("records", 0, "success"),
+    ("records", 1, "0 0"),
+    ("records", 2, "0 0"),
+    ("records", 3, "0 0"),
+    ("records", 4, "0 0"),
+    ("records", 4, "node 0"),
+    ("records", 5, "node stream"),
+    ("records", 6, "0 0"),
+    ("records", 9, "0 and a number"),
+    ("records", 10, "0 0"),
+    ("records after a turn", 0, "success"),
     ("pieces joined", 0, "success"),
     ("pieces joined", 0, "a release begun in a later piece"),
     ("pieces joined", 0, "a release left waiting"),
@@ -200,6 +217,7 @@ pub struct Tally {
     tables: u64,
     budgets: u64,
     pieces: u64,
+    records: u64,
     differences: u64,
     answers: BTreeMap<Kind, u64>,
     missing: BTreeSet<Kind>,
@@ -220,6 +238,10 @@ impl Tally {
 
     pub fn new_pieces(&mut self) {
         self.pieces += 1;
+    }
+
+    pub fn new_records(&mut self) {
+        self.records += 1;
     }
 
     /// Counts one answer, and says where the two programs differ; answers whether
@@ -278,6 +300,7 @@ impl Tally {
         println!("tables {}", self.tables);
         println!("budgets {}", self.budgets);
         println!("replays by pieces {}", self.pieces);
+        println!("replays with records {}", self.records);
         for ((entry, number, place), times) in &self.answers {
             println!("{entry} {number} ({place}) {times}");
         }

@@ -1,15 +1,17 @@
 //! The five errors that document 01 has seen in fitters' sheets, three wrong
 //! ranks, eight wrong writers, two wrong starting places, four wrong late tests,
 //! five wrong jumps, ten wrong searches for budgets, thirteen wrong uses of the
-//! jitter and sixteen wrong replays by pieces, each made on purpose, so that a
-//! comparison can show that it catches them. All else is as in the good program,
-//! but for the search that the wrong jumps are made in.
+//! jitter, sixteen wrong replays by pieces and fifteen wrong lists of stream
+//! records, each made on purpose, so that a comparison can show that it catches
+//! them. All else is as in the good program, but for the search that the wrong
+//! jumps are made in.
 
 mod budgets;
 mod delivery;
 mod jitter;
 mod jumps;
 mod pieces;
+mod records;
 mod start;
 mod writer;
 
@@ -44,6 +46,12 @@ pub use pieces::{
     resume_moving_on_only, resume_numbering_anew, resume_placing_in_the_log,
     resume_record_after_log, resume_room_before_places, resume_till_places_run_out,
     resume_to_the_horizon, resume_with_all_due, resume_with_known_streams,
+};
+pub use records::{
+    records_after_begins, records_counting_equal, records_counting_late, records_if_admitted,
+    records_kept_if_none, records_list_before_horizon, records_list_before_log,
+    records_marking_only, records_of_last_turn, records_of_last_wait, records_of_the_next,
+    records_over_deadline, records_to_the_end, records_zeroed_early, records_zeroing_all,
 };
 pub use start::{replay_starting_late, step_after_last_begun};
 pub use writer::{

@@ -1,12 +1,13 @@
 //! The independent second program: written from document 01 and, for the rank,
-//! the writer, the late test, the budgets, the jitter and the pieces, requests
-//! One, Two, Four, Five, Six and Seven of document 02 alone, so that the proved
-//! program can be compared with it. It shares no code with that program, and
-//! keeps other accounts: running remainders in the search for J, one queue a
+//! the writer, the late test, the budgets, the jitter, the pieces and the stream
+//! records, requests One, Two and Four to Eight of document 02 alone, so that the
+//! proved program can be compared with it. It shares no code with that program,
+//! and keeps other accounts: running remainders in the search for J, one queue a
 //! stream in the replay, two heaps a node in the replay by pieces, a sheet put
-//! together apart from the room in the writer, budgets raised node by node. J is
-//! tried one by one from 1 up, as far as the deadline allows: a search that
-//! leaves some out is measured against that.
+//! together apart from the room in the writer, budgets raised node by node,
+//! stream records counted once the replay is over. J is tried one by one from 1
+//! up, as far as the deadline allows: a search that leaves some out is measured
+//! against that.
 //!
 //! Every entry is total: whatever is handed in gets an answer, and a refusal
 //! changes no lent word.
@@ -18,6 +19,7 @@ pub mod events;
 pub mod generate;
 mod log;
 mod pieces;
+mod records;
 mod replay;
 mod sheet;
 pub mod stats;
@@ -28,6 +30,7 @@ mod writer;
 pub use admission::{admit, one_stream};
 pub use budgets::{find_budgets, find_budgets_by_rounds};
 pub use pieces::{resume, Checkpoint, Lent, Place, CHECKPOINT_WORDS, MOST_WAITING};
+pub use records::{records_afresh, replay_with_records, StreamRecord};
 pub use replay::replay;
 pub use sheet::check_sheet;
 pub use step::step;

@@ -6,6 +6,7 @@ mod edges;
 mod jitter;
 mod pieces;
 mod rank;
+mod records;
 mod search;
 mod tables;
 
@@ -25,6 +26,7 @@ pub use jitter::{event_names, jitter_names, kinds_of_jitters};
 pub use jitter::{EVENT_NAMES, IN_TIME_NAMES, JITTER_NAMES, TOO_LATE_NAMES};
 pub use pieces::{gather_pieces, joined_names, Resumed};
 pub use pieces::{HORIZON_FAULTS, JOINED_NAMES, PIECE_FAULTS, PIECE_NAMES, RECORD_FAULTS};
+pub use records::{gather_records, list_names, LIST_NAMES};
 pub use search::{found_names, late_name, FOUND_NAMES, LATE_NAMES};
 pub use tables::{gather_tables, tables_fault};
 

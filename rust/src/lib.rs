@@ -23,7 +23,8 @@
 //! Sheets and logs are tables of words, laid out as the repository's README
 //! says; [`write_sheet`] makes a sheet, so that nobody has to lay one out by
 //! hand, and [`find_budgets`] finds the smallest budgets with which no stream
-//! is late. A log that is still being written is replayed piece by piece with
+//! is late. [`replay_with_records`] counts for each stream what the replay has
+//! seen of it. A log that is still being written is replayed piece by piece with
 //! [`resume`]. Every function takes any tables: what is wrong with them comes back
 //! as a [`Refusal`] with a [`Reason`], a place and a sentence, and then no lent
 //! word has changed. Of all refusals that apply, the first in the order that
@@ -64,7 +65,7 @@ pub const NOT_BEGUN: u32 = 4294967295;
 pub const MAX_NODES: usize = 16;
 
 /// The most streams of a sheet: a room of so many words is long enough for
-/// [`admit`].
+/// [`admit`], and a list of so many records for [`replay_with_records`].
 ///
 /// ```
 /// let mut room = [0; wistorvan::MAX_STREAMS];
@@ -342,6 +343,51 @@ pub struct Replay<'r> {
     pub next: u32,
 }
 
+/// What a replay has seen of one stream. A list of them is lent to
+/// [`replay_with_records`].
+///
+/// ```
+/// use wistorvan::{StreamRecord, MAX_STREAMS};
+///
+/// let list = [StreamRecord::default(); MAX_STREAMS];
+/// assert_eq!(list[0], StreamRecord { begun: 0, longest: 0, over: 0 });
+/// ```
+#[repr(C)]
+#[derive(Clone, Copy, PartialEq, Eq, Hash, Debug, Default)]
+pub struct StreamRecord {
+    /// Messages begun.
+    pub begun: u32,
+    /// The longest of their waits, in ticks from queuing to begin.
+    pub longest: u32,
+    /// How many of them waited longer than the listed wait. A late stream has
+    /// no listed wait, and this stays 0.
+    pub over: u32,
+}
+
+/// What [`replay_with_records`] answers.
+///
+/// ```
+/// use wistorvan::{replay_with_records, StreamRecord};
+///
+/// let (mut room, mut list) = ([0; 1], [StreamRecord::default(); 1]);
+/// let sheet = [1, 5, 1, 6, 1, 1, 20, 20, 0];
+/// let recorded = replay_with_records(&sheet, &[2, 1], 4, &mut room, &mut list).unwrap();
+/// assert_eq!((recorded.begins[0], recorded.turns, recorded.next), (2, 3, 8));
+/// assert_eq!(recorded.records[0].begun, 1);
+/// ```
+#[derive(Clone, Copy, PartialEq, Eq, Hash, Debug)]
+pub struct Recorded<'r> {
+    /// The begin tick of each release in log order, or [`NOT_BEGUN`]: the
+    /// first words of the lent room.
+    pub begins: &'r [u32],
+    /// The record of each stream in sheet order: the first of the lent list.
+    pub records: &'r [StreamRecord],
+    /// How many turns started before the horizon.
+    pub turns: u32,
+    /// The tick at which the next turn would start.
+    pub next: u32,
+}
+
 /// What [`step`] answers.
 ///
 /// ```
@@ -552,6 +598,51 @@ pub fn replay<'r>(
         turns,
         next,
     })
+}
+
+/// [`replay`] with a record of each stream beside the begin ticks: its messages
+/// begun, the longest of their waits, and how many waited longer than the listed
+/// wait. The records go to the list's first places, in sheet order; the rest
+/// stays, and what they held before plays no part. A late stream is judged by
+/// itself, and also on a sheet that would not be admitted: its third number stays 0.
+///
+/// # Errors
+///
+/// Those of [`replay`], and then [`Reason::RoomTooShort`] for a list with fewer
+/// records than the sheet has streams; [`MAX_STREAMS`] are always enough.
+///
+/// ```
+/// use wistorvan::{replay_with_records, Reason, StreamRecord};
+///
+/// let sheet = [2, 5, 1, 9, 2, 1, 15, 1, 2, 40, 40, 0, 60, 60, 0, 30, 30, 0];
+/// let log = [0, 1, 0, 2, 1, 3];
+/// let (mut room, mut list) = ([0; 3], [StreamRecord::default(); 3]);
+/// let recorded = replay_with_records(&sheet, &log, 40, &mut room, &mut list).unwrap();
+/// let longest: Vec<u32> = recorded.records.iter().map(|record| record.longest).collect();
+/// assert_eq!(longest, [0, 12, 5]);
+///
+/// let refusal = replay_with_records(&sheet, &log, 40, &mut room, &mut list[..2]).unwrap_err();
+/// assert_eq!(refusal.reason(), Reason::RoomTooShort);
+/// ```
+pub fn replay_with_records<'r>(
+    sheet: &[u32],
+    log: &[u32],
+    horizon: u32,
+    room: &'r mut [u32],
+    records: &'r mut [StreamRecord],
+) -> Result<Recorded<'r>, Refusal> {
+    let (turns, next) = raw::replay_with_records(sheet, log, horizon, room, records).accepted()?;
+    Ok(Recorded {
+        begins: &room[..log.len() / 2],
+        records: &records[..streams(sheet)],
+        turns,
+        next,
+    })
+}
+
+/// How many streams a valid sheet has: three words each after its contents.
+fn streams(sheet: &[u32]) -> usize {
+    (sheet.len() - 3 - 3 * sheet[0] as usize) / 3
 }
 
 /// Runs one turn of the record's node and sets the record to the next turn.

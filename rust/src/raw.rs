@@ -4,13 +4,13 @@
 //! arguments.
 //!
 //! What this boundary assumes: that a lent table passes as a pointer to its
-//! words and then their number, a record, or a table whose length is fixed, as
+//! words and then their number, a list of stream records likewise, a record, or a table whose length is fixed, as
 //! one pointer, and that an answer comes back as three 32-bit words in C's
 //! layout. No compiler holds the declarations here to the Rattle
 //! source; tests/declarations.rs compares their text with it. The library asks
 //! nothing of its caller, so there is nothing to test before a call.
 
-use crate::{Bus, Checkpoint, Refusal, Tables};
+use crate::{Bus, Checkpoint, Refusal, StreamRecord, Tables};
 
 /// Three numbers. Number 0 is success; any other is a refusal, and the two
 /// after it are its place.
@@ -43,7 +43,7 @@ impl Answer {
 }
 
 mod linked {
-    use super::{Answer, Bus, Checkpoint};
+    use super::{Answer, Bus, Checkpoint, StreamRecord};
 
     extern "C" {
         pub fn wistorvan_check_sheet(sheet: *const u32, sheet_words: usize) -> Answer;
@@ -67,6 +67,17 @@ mod linked {
             horizon: u32,
             room: *mut u32,
             room_words: usize,
+        ) -> Answer;
+        pub fn wistorvan_replay_records(
+            sheet: *const u32,
+            sheet_words: usize,
+            log: *const u32,
+            log_words: usize,
+            horizon: u32,
+            room: *mut u32,
+            room_words: usize,
+            records: *mut StreamRecord,
+            records_count: usize,
         ) -> Answer;
         pub fn wistorvan_step(
             sheet: *const u32,
@@ -113,8 +124,8 @@ mod linked {
 }
 
 // SAFETY, of every call below: each pointer goes with the length of its own
-// slice; what is only read is lent as const; a room and a record are lent for
-// writing and to nobody else meanwhile.
+// slice; what is only read is lent as const; a room, a list and a record are lent
+// for writing and to nobody else meanwhile.
 
 /// [`crate::check_sheet`]: 0 0 0 for a valid sheet.
 ///
@@ -172,6 +183,41 @@ pub fn replay(sheet: &[u32], log: &[u32], horizon: u32, room: &mut [u32]) -> Ans
             horizon,
             room.as_mut_ptr(),
             room.len(),
+        )
+    }
+}
+
+/// [`crate::replay_with_records`]: the numbers and begin ticks of [`replay`], and
+/// a record of each stream in the list's first places.
+///
+/// ```
+/// use wistorvan::{raw, StreamRecord};
+///
+/// let (mut room, mut records) = ([0; 1], [StreamRecord::default(); 1]);
+/// let sheet = [1, 5, 1, 6, 1, 1, 20, 20, 0];
+/// let answer = raw::replay_with_records(&sheet, &[2, 1], 4, &mut room, &mut records);
+/// assert_eq!((answer.number, answer.second, answer.third), (0, 3, 8));
+/// assert_eq!((records[0].begun, records[0].longest, records[0].over), (1, 0, 0));
+/// ```
+#[must_use]
+pub fn replay_with_records(
+    sheet: &[u32],
+    log: &[u32],
+    horizon: u32,
+    room: &mut [u32],
+    records: &mut [StreamRecord],
+) -> Answer {
+    unsafe {
+        linked::wistorvan_replay_records(
+            sheet.as_ptr(),
+            sheet.len(),
+            log.as_ptr(),
+            log.len(),
+            horizon,
+            room.as_mut_ptr(),
+            room.len(),
+            records.as_mut_ptr(),
+            records.len(),
         )
     }
 }

@@ -42,10 +42,11 @@ pub enum Reason {
     /// sheet), first in sheet order. Place node, stream.
     BadStream,
     /// 6: the room is shorter than one word a stream (admit) or a release
-    /// (replay, step), than the sheet (write sheet), than sixteen words,
-    /// however few the nodes are (find budgets), or than two words for each
-    /// message that waits and each release of the piece, begun or not (resume).
-    /// Place 0, 0.
+    /// (replay, replay with records, step), than the sheet (write sheet), than
+    /// sixteen words, however few the nodes are (find budgets), or than two
+    /// words for each message that waits and each release of the piece, begun or
+    /// not (resume); or the list has fewer records than the sheet has streams
+    /// (replay with records). Place 0, 0.
     RoomTooShort,
     /// 7: a stream is late: a message of it could be delivered after its
     /// deadline, which runs from its event, jitter ticks before its queuing at
@@ -83,7 +84,7 @@ pub enum Reason {
 /// A refusal: its number, its place, and as text a sentence that has both.
 ///
 /// Nothing is changed by an entry that refuses: no word of a room and no
-/// field of a bus record or a checkpoint.
+/// field of a stream record, a bus record or a checkpoint.
 ///
 /// ```
 /// use wistorvan::{admit, Reason};
@@ -171,7 +172,7 @@ impl Refusal {
             ),
             Reason::RoomTooShort => write!(
                 f,
-                "the room is too short for waits, begins, sheet or budgets"
+                "the room is too short for waits, begins, sheet or budgets, or the list for records"
             ),
             Reason::Late => write!(f, "stream {b} of node {a} would be late"),
             Reason::NoSuchStream => write!(f, "the sheet has no stream {b} of node {a}"),

@@ -7,7 +7,7 @@ use std::fs;
 use std::mem::offset_of;
 use std::path::Path;
 
-use wistorvan::{Checkpoint, MAX_WAITING, NOT_BEGUN};
+use wistorvan::{Checkpoint, StreamRecord, MAX_WAITING, NOT_BEGUN};
 use wistorvan::{CHECKPOINT_WORDS, LONGEST_SHEET, MAX_NODES, MAX_RELEASES, MAX_STREAMS};
 
 /// The checkpoint in the Rattle source: a table of its words.
@@ -80,6 +80,9 @@ fn in_c(entry: &Entry) -> String {
             "u32" => format!("uint32_t {name}"),
             "&[u32]" => format!("const uint32_t *{name}, size_t {name}_words"),
             "&mut [u32]" => format!("uint32_t *{name}, size_t {name}_words"),
+            "&mut [StreamRecord]" => {
+                format!("struct wistorvan_stream_record *{name}, size_t {name}_count")
+            }
             "&mut Bus" => format!("struct wistorvan_bus *{name}"),
             // A table of a fixed length passes as one pointer.
             CHECKPOINT => format!("struct wistorvan_checkpoint *{name}"),
@@ -97,6 +100,9 @@ fn in_rust(entry: &Entry) -> String {
             "u32" => format!("{name}: u32"),
             "&[u32]" => format!("{name}: *const u32, {name}_words: usize"),
             "&mut [u32]" => format!("{name}: *mut u32, {name}_words: usize"),
+            "&mut [StreamRecord]" => {
+                format!("{name}: *mut StreamRecord, {name}_count: usize")
+            }
             "&mut Bus" => format!("{name}: *mut Bus"),
             CHECKPOINT => format!("{name}: *mut Checkpoint"),
             _ => panic!("{kind} has no form in Rust yet"),
@@ -111,8 +117,8 @@ fn sorted(mut declarations: Vec<String>) -> Vec<String> {
 }
 
 #[test]
-fn eight_entries() {
-    assert_eq!(entries().len(), 8);
+fn nine_entries() {
+    assert_eq!(entries().len(), 9);
 }
 
 /// Six words and then three tables, in this order and with nothing between, as
@@ -158,6 +164,23 @@ fn the_checkpoint_of_the_header() {
     let tables = tables.map(|name| format!("uint32_t {name}[WISTORVAN_MAX_WAITING]"));
     let expected = [&numbers[..], &tables].concat();
     assert_eq!(fields_in_c("wistorvan_checkpoint"), expected);
+}
+
+/// Three words, in this order and with nothing between.
+#[test]
+fn the_words_of_a_stream_record() {
+    assert_eq!(size_of::<StreamRecord>(), 12);
+    let places = [
+        offset_of!(StreamRecord, begun),
+        offset_of!(StreamRecord, longest),
+        offset_of!(StreamRecord, over),
+    ];
+    assert_eq!(places, [0, 4, 8]);
+    let fields = ["begun", "longest", "over"].map(|name| format!("uint32_t {name}"));
+    assert_eq!(fields_in_c("wistorvan_stream_record"), fields);
+    let rattle = source("crates/model/src/lib.rt");
+    let declared = "pub struct StreamRecord { pub begun: u32, pub longest: u32, pub over: u32, }";
+    assert!(rattle.contains(declared));
 }
 
 #[test]

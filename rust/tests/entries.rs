@@ -3,9 +3,9 @@
 
 use std::error::Error;
 
-use wistorvan::{admit, check_sheet, find_budgets, one_stream, raw, replay, resume, step};
-use wistorvan::{write_sheet, Budgets, Bus, Checkpoint, ListedWait, Reason, Refusal, Step};
-use wistorvan::{Tables, Written};
+use wistorvan::{admit, check_sheet, find_budgets, one_stream, raw, replay, replay_with_records};
+use wistorvan::{resume, step, write_sheet, Budgets, Bus, Checkpoint, ListedWait, Reason, Refusal};
+use wistorvan::{Step, StreamRecord, Tables, Written};
 use wistorvan::{LONGEST_SHEET, MAX_NODES, MAX_RELEASES, MAX_STREAMS, NOT_BEGUN};
 
 const SHEET_A: [u32; 18] = [2, 5, 1, 9, 2, 1, 15, 1, 2, 40, 40, 0, 60, 60, 0, 30, 30, 0];
@@ -208,6 +208,11 @@ fn the_plain_numbers() {
     let answer = raw::replay(&SHEET_A, &LOG, 40, &mut room);
     assert_eq!(numbers(answer), (0, 25, 40));
     assert_eq!(room, [0, 12, 6, 7]);
+    let mut list = [StreamRecord::default(); 3];
+    let answer = raw::replay_with_records(&SHEET_A, &LOG, 12, &mut room, &mut list);
+    assert_eq!(numbers(answer), (0, 2, 12));
+    assert_eq!(room, [0, NOT_BEGUN, 6, 7]);
+    assert_eq!(list.map(|record| record.longest), [0, 0, 5]);
     let mut bus = Bus::START;
     room.fill(NOT_BEGUN);
     let answer = raw::step(&SHEET_A, &LOG, &mut bus, &mut room);
@@ -236,6 +241,8 @@ fn sheet_refusal(sheet: &[u32]) -> Refusal {
     assert_eq!(one_stream(sheet, 0, 0), Err(refusal));
     assert_eq!(admit(sheet, &mut []), Err(refusal));
     assert_eq!(replay(sheet, &[1], TOO_LARGE, &mut []), Err(refusal));
+    let recorded = replay_with_records(sheet, &[1], TOO_LARGE, &mut [], &mut []);
+    assert_eq!(recorded, Err(refusal));
     assert_eq!(step(sheet, &[1], &mut bus, &mut []), Err(refusal));
     assert_eq!(find_budgets(sheet, &mut []), Err(refusal));
     let mut checkpoint = Checkpoint {
@@ -393,7 +400,7 @@ fn a_stream_that_is_not_there() {
 
 #[test]
 fn a_room_too_short() {
-    let why = "the room is too short for waits, begins, sheet or budgets";
+    let why = "the room is too short for waits, begins, sheet or budgets, or the list for records";
     let (mut room, mut bus) = ([NOT_BEGUN; 2], Bus::START);
     let refusal = admit(&SHEET_A, &mut room).unwrap_err();
     assert_refusal(refusal, Reason::RoomTooShort, 6, (0, 0), why);
@@ -409,7 +416,7 @@ fn a_room_too_short() {
     assert_eq!(room, [7; MAX_NODES - 1]);
 }
 
-/// The replay and the step refuse a log alike, before all but the sheet.
+/// The replays and the step refuse a log alike, before all but the sheet.
 #[track_caller]
 fn log_refusal(log: &[u32]) -> Refusal {
     let mut bus = Bus {
@@ -417,6 +424,8 @@ fn log_refusal(log: &[u32]) -> Refusal {
         ..Bus::START
     };
     let refusal = replay(&SHEET_A, log, TOO_LARGE, &mut []).unwrap_err();
+    let recorded = replay_with_records(&SHEET_A, log, TOO_LARGE, &mut [], &mut []);
+    assert_eq!(recorded, Err(refusal));
     assert_eq!(step(&SHEET_A, log, &mut bus, &mut []), Err(refusal));
     refusal
 }

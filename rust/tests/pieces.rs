@@ -179,7 +179,7 @@ fn too_many_waiting_and_a_short_room() {
     let why = "the waiting and the piece's releases are more than 256";
     let refusal = refused(&checkpoint, &[5, 1, 6, 1], 20, 0);
     assert_refusal(refusal, Reason::TooManyWaiting, 12, (0, 0), why);
-    let why = "the room is too short for waits, begins, sheet or budgets";
+    let why = "the room is too short for waits, begins, sheet or budgets, or the list for records";
     let refusal = refused(&checkpoint, &[5, 1], 20, 2 * MAX_WAITING - 1);
     assert_refusal(refusal, Reason::RoomTooShort, 6, (0, 0), why);
     let mut room = [7; 2 * MAX_WAITING];

@@ -1,6 +1,6 @@
 //! Generated logs, and holding `replay --json` to the library's replay.
 
-use wistorvan::{begun, replay};
+use wistorvan::{begun, replay_with_records, StreamRecord, MAX_STREAMS};
 
 use super::hold::{equal, list, number, optional, text, Held};
 use super::json::Json;
@@ -49,14 +49,17 @@ pub fn releases(random: &mut Random, line: &Line, ticks: &Ticks, sheet: &Sheet) 
     }
 }
 
-/// What came of the messages: whether one waited longer than listed, and
-/// whether one is of a stream that is late, and so has no listed wait.
+/// What came of the messages: whether one waited longer than listed, whether
+/// that is in a record, as it has begun, and whether one is of a stream that is
+/// late, and so has no listed wait.
 pub struct Outcome {
     pub over: bool,
+    pub recorded: bool,
     pub unlisted: bool,
 }
 
-/// Holds every message to the library's replay and listed waits.
+/// Holds every message to the library's replay and listed waits, and every
+/// stream's row to the library's record.
 pub fn messages_hold(
     said: &Json,
     line: &Line,
@@ -65,15 +68,24 @@ pub fn messages_hold(
     log: &Log,
 ) -> Result<Outcome, String> {
     let mut room = vec![0; log.words.len() / 2];
-    let replayed = replay(&sheet.words, &log.words, log.horizon, &mut room);
+    let mut records = [StreamRecord::default(); MAX_STREAMS];
+    let replayed = replay_with_records(
+        &sheet.words,
+        &log.words,
+        log.horizon,
+        &mut room,
+        &mut records,
+    );
     let replayed = replayed.map_err(|refusal| refusal.to_string())?;
     equal("horizon", number(said, "horizon")?, log.horizon.into())?;
     equal("turns", number(said, "turns")?, replayed.turns.into())?;
     equal("next turn", number(said, "next")?, replayed.next.into())?;
     let rows = list(said, "messages")?;
     equal("number of messages", rows.len(), replayed.begins.len())?;
+    records_hold(said, line, ticks, sheet, replayed.records)?;
     let mut outcome = Outcome {
         over: false,
+        recorded: replayed.records.iter().any(|record| record.over > 0),
         unlisted: false,
     };
     for (at, (row, release)) in rows.iter().zip(log.words.chunks(2)).enumerate() {
@@ -94,11 +106,32 @@ pub fn messages_hold(
     Ok(outcome)
 }
 
+fn records_hold(
+    said: &Json,
+    line: &Line,
+    ticks: &Ticks,
+    sheet: &Sheet,
+    records: &[StreamRecord],
+) -> Held {
+    let rows = list(said, "records")?;
+    equal("number of records", rows.len(), ticks.places().len())?;
+    equal("number of the library's", rows.len(), records.len())?;
+    for ((row, place), record) in rows.iter().zip(ticks.places()).zip(records) {
+        names_hold(row, line, place)?;
+        let listed = ticks.listed(sheet, place.0, place.1).wait;
+        equal("listed in a record", optional(row, "listed")?, listed)?;
+        equal("begun", number(row, "begun")?, record.begun.into())?;
+        equal("longest", number(row, "longest")?, record.longest.into())?;
+        equal("over", number(row, "over")?, record.over.into())?;
+    }
+    Ok(())
+}
+
 fn names_hold(row: &Json, line: &Line, (node, stream): (usize, usize)) -> Held {
     let node = &line.nodes[node];
-    equal("node of a message", text(row, "node")?, &node.name)?;
+    equal("node of a row", text(row, "node")?, &node.name)?;
     equal(
-        "stream of a message",
+        "stream of a row",
         text(row, "stream")?,
         &node.streams[stream].name,
     )

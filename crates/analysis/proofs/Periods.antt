@@ -1,32 +1,19 @@
 -- Interference goes by the least periods and jitters alone, and so the verdict by them is the definition's. Assumes nothing.
-use Prim.Native.Nat.{ℕ, zero, suc, _+_, _≤_}
-use native.Mathlib.Omega.{arith}
-use mathlib.Core.Path.{_≡_, refl, ap, _∙_}
-use mathlib.Core.List.{List, [], _∷_}
-use lib.ListN.{length}
-use Rattle.theory.specs.Sum.{sum}
-use Rattle.theory.proofs.Sums.{sumTo-none, sumTo-first, sumTo-same}
+use Prim.Native.Nat.{ℕ}
+use mathlib.Core.Path.{_≡_, ap, _∙_}
+use mathlib.Core.List.{List}
 use Rattle.model.specs.declared.Stream.{Stream}
 use Rattle.model.specs.declared.Timing.{Timing}
 use Rattle.model.specs.declared.Verdict.{Verdict}
-use Rattle.model.specs.Analysis.{mostReleases, interference, verdict, streamOf, higherStreams, timingWith, verdictWith}
-use Rattle.wait.specs.Periods.{releasesBy, interferenceBy}
+use Rattle.model.specs.Analysis.{interference, verdict, streamOf, higherStreams, timingWith, verdictWith}
+use Rattle.wait.specs.Periods.{interferenceBy}
+use Rattle.wait.proofs.Periods.{by-each}
 use Rattle.analysis.specs.Periods.{periodsOf, jittersOf, higherPeriods, higherJitters}
 
 -- Interference looks at the least periods and jitters.
 interference-at : (ys : List Stream) (w : ℕ) → interferenceBy (periodsOf ys) (jittersOf ys) w ≡ interference ys w
-unfolding interference sum
-interference-at [] w = sumTo-none (releasesBy [] [] w)
-interference-at (y ∷ ys) w =
-    sumTo-first (releasesBy (periodsOf (y ∷ ys)) (jittersOf (y ∷ ys)) w) (length (periodsOf ys))
-    ∙ ap (λ n. mostReleases (y .period) (y .jitter) w + n) (sumTo-same _ _ (length (periodsOf ys)) later ∙ interference-at ys w)
-  where
-    later : (i : ℕ)
-        → 1 ≤ i
-        → i ≤ length (periodsOf ys)
-        → releasesBy (periodsOf (y ∷ ys)) (jittersOf (y ∷ ys)) w (suc i) ≡ releasesBy (periodsOf ys) (jittersOf ys) w i
-    later zero low high = absurd (omega arith)
-    later (suc i) low high = refl
+unfolding interference
+interference-at ys w = by-each (λ y. y .period) (λ y. y .jitter) ys w
 
 interference-lists : (ys : List Stream) → interferenceBy (periodsOf ys) (jittersOf ys) ≡ interference ys
 interference-lists ys = λ i w. interference-at ys w i

@@ -7,7 +7,7 @@ ghost use Rattle.model.specs.Refusal.{outside};
 ghost use Rattle.model.specs.Sheet.{nodes, streamCount, totalStreams, OnSheet, Valid};
 ghost use Rattle.model.specs.Answers.{verdictAnswer, oneStreamAnswer, admitAnswer, admitBuffer};
 ghost use Rattle.model.specs.Demand.{Judged, AllJudged};
-use cycle::cycle_of;
+pub use cycle::cycle_of;
 use judge::judge_sheet;
 use layout::stream_count;
 use layout::streams_up_to;

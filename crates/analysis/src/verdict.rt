@@ -12,7 +12,7 @@ use model::Verdict;
 use wait::verdict_by;
 
 // The timing of a node with that full cycle and budget.
-fn timing_with(sheet: &[u32], cycle: u32, budget: u32) -> Timing
+pub fn timing_with(sheet: &[u32], cycle: u32, budget: u32) -> Timing
     ensures { λ r. ⌜ r ≡ timingWith (now (sheet .entry)) cycle budget ⌝ }
 {
     Timing {

@@ -9,11 +9,12 @@ use lib.Seq.{drop-cons}
 use Rattle.theory.proofs.Places.{at-word}
 use Rattle.theory.proofs.FirstOnes.{taking, taken-waits}
 use Rattle.model.specs.declared.Bus.{Bus}
-use Rattle.model.specs.Limits.{maxBudget}
+use Rattle.model.specs.Limits.{maxTime, maxBudget}
 use Rattle.model.specs.Sheet.{word, messageTicks, slotTicks, budget}
 use Rattle.model.specs.Protocol.{releases, queueOf, takenBy, beginsFrom, serve, serveTurn, nextNode, nextBus}
 use Rattle.model.proofs.Sheet.ValidSheet.{valid-fits}
 use Rattle.model.proofs.Protocol.Turn.{serve-taken}
+use Rattle.model.proofs.Protocol.Clock.{next-range}
 use Rattle.queue.specs.Queue.{ValidNode}
 use Rattle.bus.specs.Turns.{AllBelow}
 
@@ -74,3 +75,18 @@ next-record s bus x next sent passed = rw (next, sent, passed) refl
 pub clock-moves : {s : List ℕ} (bus : Bus) (x : ℕ) → ValidNode s (bus .node) → bus .tick < nextBus s bus x .tick
 unfolding nextBus
 clock-moves {s} bus x node = omega (arith, valid-fits s (node .valid) .header .slotFrom)
+
+-- It leads to a node of the sheet,
+pub next-valid : {s : List ℕ} (bus : Bus) (x : ℕ) → ValidNode s (bus .node) → ValidNode s (nextBus s bus x .node)
+unfolding nextBus
+next-valid {s} bus x node =
+    let range = next-range s (bus .node) (node .from) (node .upTo) in
+    record { valid = node .valid; from = range .0; upTo = range .1 }
+
+-- and its count stays below the clock and the last tick.
+pub next-turns : {s : List ℕ} (bus : Bus) (x : ℕ)
+    → ValidNode s (bus .node)
+    → bus .turns ≤ maxTime + bus .tick
+    → nextBus s bus x .turns ≤ maxTime + nextBus s bus x .tick
+unfolding nextBus
+next-turns {s} bus x node few = omega (arith, few, valid-fits s (node .valid) .header .slotFrom)

@@ -10,13 +10,16 @@ use model::Bus;
 use queue::arrived_by;
 use queue::next_unbegun;
 pub use turns::Header;
-use turns::clear;
+pub use turns::Position;
+pub use turns::clear;
 pub use turns::header_of;
+pub use turns::move_on;
 pub use turns::next_bus;
 pub use turns::next_event;
 pub use turns::pass_idle;
 use turns::run_to;
 pub use turns::run_turn;
+pub use turns::start_at;
 
 mod turns; // turns.rt: one turn, and the run of turns to a horizon
 

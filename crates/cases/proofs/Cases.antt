@@ -2,6 +2,7 @@
 -- Assumes nothing.
 use mathlib.Core.Path.{refl}
 use Rattle.theory.specs.Sum.{sum, upTo}
+use Rattle.theory.specs.Count.{countBelow, larger, largestBelow}
 use Rattle.theory.specs.Queue.{firstIn, first, firstOnes}
 use Rattle.theory.specs.Listing.{valuesFrom, joinedFrom}
 use Rattle.model.specs.Refusal.{refuseIf, _orElse_, firstOf, outside}
@@ -9,8 +10,10 @@ use Rattle.model.specs.Sheet.{cycle, ticksOutside, countsOutside, timesOutside,
 use Rattle.model.specs.Analysis.{streamsFrom, outranks, above, mostReleases, interference, waitFor, search, verdict, verdictWith}
 use Rattle.model.specs.Protocol.{ofNode, queuedBefore, waiting, beginsFrom, serve, nextNode, nextBus, turn, start, run, replayed}
 use Rattle.model.specs.Answers.{roomRefusal, tickBefore, releaseRefusal, logRefusal, horizonRefusal, lateRefusal, nodeLateWith, waitWord, bufferAfter, unknownRefusal, verdictAnswer, recordRefusal, oneStreamAnswer, admitAnswer, admitBuffer, replayAnswer, replayBuffer, stepRefusal, stepAnswer, stepBus, stepBuffer}
+use Rattle.model.specs.Records.{begunOf, longerThan, recordOf, recordsFrom, recordsOf}
+use Rattle.model.specs.Answers.{recordsAnswer, recordsBuffer, recordsList}
 use Rattle.model.specs.Bench.{sheetA, sheetA6, sheetP7, sheetPair, sheetJitter, logP9, logP11}
-use Rattle.cases.specs.Cases.{AllHold, cases, gives, outcomeOf, lent, Further, sheetEqual, sheetOne, logBoth, madeUpBus, madeUpRoom}
+use Rattle.cases.specs.Cases.{AllHold, cases, gives, outcomeOf, lent, Further, sheetEqual, sheetOne, logBoth, logBurst, logAsListed, lentList, madeUpBus, madeUpRoom}
 
 pub all-hold : AllHold
 unfolding
@@ -33,8 +36,8 @@ unfolding
     ofNode queuedBefore waiting beginsFrom serve nextNode nextBus turn start run replayed
     unknownRefusal verdictAnswer oneStreamAnswer
     roomRefusal tickBefore releaseRefusal logRefusal horizonRefusal lateRefusal nodeLateWith waitWord valuesFrom joinedFrom bufferAfter
-    admitAnswer admitBuffer replayAnswer replayBuffer recordRefusal stepRefusal stepAnswer stepBus stepBuffer
-    lent sheetA sheetP7 sheetPair sheetJitter logP11 sheetEqual sheetOne logBoth madeUpBus madeUpRoom
+    admitAnswer admitBuffer replayAnswer replayBuffer recordRefusal recordsFrom recordsOf recordOf begunOf longerThan countBelow larger largestBelow recordsAnswer recordsBuffer recordsList stepRefusal stepAnswer stepBus stepBuffer
+    lent sheetA sheetP7 sheetPair sheetJitter logP11 sheetEqual sheetOne logP9 logBoth logBurst logAsListed lentList madeUpBus madeUpRoom
 further =
     record {
       secondStream = refl;
@@ -74,4 +77,11 @@ further =
       longestJitter = refl;
       jitterIsPeriod = refl;
       rankWithoutJitter = refl;
+      recordsOver = refl;
+      recordsLate = refl;
+      recordsAsListed = refl;
+      listTooShort = refl;
+      shortListStays = refl;
+      shortListNoWord = refl;
+      horizonBeforeList = refl;
     }

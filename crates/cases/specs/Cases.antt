@@ -7,11 +7,12 @@ use mathlib.Core.List.{List, [], _∷_, map}
 use lib.ListN.{length, replicate}
 use Rattle.model.specs.declared.Answer.{Answer}
 use Rattle.model.specs.declared.Bus.{Bus}
+use Rattle.model.specs.declared.StreamRecord.{StreamRecord}
 use Rattle.model.specs.Limits.{notBegun}
 use Rattle.model.specs.Refusal.{success, refuse}
 use Rattle.model.specs.Sheet.{totalStreams}
 use Rattle.model.specs.Protocol.{releases, start}
-use Rattle.model.specs.Answers.{oneStreamAnswer, admitAnswer, admitBuffer, replayAnswer, replayBuffer, stepAnswer, stepBus, stepBuffer}
+use Rattle.model.specs.Answers.{oneStreamAnswer, admitAnswer, admitBuffer, replayAnswer, replayBuffer, recordsAnswer, recordsBuffer, recordsList, stepAnswer, stepBus, stepBuffer}
 use Rattle.model.specs.Bench.{sheetA, sheetA6, sheetP7, sheetPair, sheetJitter, logP9, logP11}
 
 -- What is asked: admit a sheet; or replay a log on it up to a horizon.
@@ -88,6 +89,21 @@ madeUpBus = record { tick = 7; node = 2; turns = 5 }
 unfoldable pub madeUpRoom : List ℕ
 madeUpRoom = 3 ∷ notBegun ∷ 4 ∷ notBegun ∷ notBegun ∷ []
 
+-- A stream record of three numbers, and a list that nobody has made.
+abbrev pub counted : ℕ → ℕ → ℕ → StreamRecord
+counted begun longest over = record { begun = begun; longest = longest; over = over }
+
+unfoldable pub lentList : ℕ → List StreamRecord
+lentList length = replicate length (counted 9 9 9)
+
+-- Node 1's first stream releases four times at once, its second once; node 2's stream keeps its period.
+unfoldable pub logBurst : List ℕ
+logBurst = 0 ∷ 1 ∷ 0 ∷ 1 ∷ 0 ∷ 1 ∷ 0 ∷ 1 ∷ 0 ∷ 2 ∷ 1 ∷ 3 ∷ 31 ∷ 3 ∷ []
+
+-- The second message of node 1's first stream waits as long as listed.
+unfoldable pub logAsListed : List ℕ
+logAsListed = 0 ∷ 1 ∷ 0 ∷ 3 ∷ 0 ∷ 3 ∷ 1 ∷ 1 ∷ []
+
 -- Cases beside those: one stream with its wait and J; the late test at its edge, in the first turn and in the second, and for a message that is
 -- first in a turn of two; releases that come while a stream waits; rank by deadline, then by period (61 is the longer one), then by number, in
 -- waits, replay and step; the order of refusals; one step over a made-up buffer; and jitter: in the late test the stream's own, to the tick, in
@@ -130,3 +146,10 @@ pub record Further : Type 0 where
   pub longestJitter : oneStreamAnswer (sheetOne 99) 1 1 ≡ refuse 7 1 1
   pub jitterIsPeriod : oneStreamAnswer (sheetOne 100) 1 1 ≡ refuse 5 1 1
   pub rankWithoutJitter : replayBuffer (sheetJitter 0 30) logBoth 8 (lent 2) ≡ 0 ∷ 7 ∷ 9 ∷ []
+  pub recordsOver : recordsList (sheetA 40 40 60) logBurst 40 7 (lentList 4) ≡ counted 4 26 2 ∷ counted 1 38 1 ∷ counted 2 5 0 ∷ counted 9 9 9 ∷ []
+  pub recordsLate : recordsList (sheetA 40 38 38) logBurst 40 7 (lentList 4) ≡ counted 4 26 2 ∷ counted 1 38 0 ∷ counted 2 5 0 ∷ counted 9 9 9 ∷ []
+  pub recordsAsListed : recordsList (sheetA 40 40 60) logAsListed 20 4 (lentList 3) ≡ counted 2 16 0 ∷ counted 0 0 0 ∷ counted 2 11 0 ∷ []
+  pub listTooShort : recordsAnswer (sheetA 40 40 60) logP9 40 3 2 ≡ refuse 6 0 0
+  pub shortListStays : recordsList (sheetA 40 40 60) logP9 40 3 (lentList 2) ≡ lentList 2
+  pub shortListNoWord : recordsBuffer (sheetA 40 40 60) logP9 40 2 (lent 3) ≡ lent 3
+  pub horizonBeforeList : recordsAnswer (sheetA 40 40 60) logP9 1_000_000_001 3 2 ≡ refuse 10 0 0

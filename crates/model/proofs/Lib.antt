@@ -3,5 +3,6 @@ pub mod Sheet
 pub mod Analysis
 pub mod Protocol
 pub mod Answers
+pub mod Records
 pub mod Demand
 pub mod Trace

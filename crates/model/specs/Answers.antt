@@ -8,6 +8,7 @@ use lib.Dec.{ltb, leb, eqb}
 use Rattle.theory.specs.Listing.{valuesFrom}
 use Rattle.model.specs.declared.Answer.{Answer}
 use Rattle.model.specs.declared.Bus.{Bus}
+use Rattle.model.specs.declared.StreamRecord.{StreamRecord}
 use Rattle.model.specs.declared.Verdict.{Verdict}
 use Rattle.model.specs.declared.Verdict.the-variants.{Late, Listed}
 use Rattle.model.specs.Limits.{releaseWords, maxReleases, maxTime}
@@ -15,6 +16,7 @@ use Rattle.model.specs.Refusal.{success, refuse, accepted, refuseIf, _or
 use Rattle.model.specs.Sheet.{word, nodes, streamCount, budget, totalStreams, inSheetOrder, cycle, sheetRefusal}
 use Rattle.model.specs.Analysis.{verdictOf, verdictWith}
 use Rattle.model.specs.Protocol.{releases, releaseTick, releaseStream, serveTurn, nextBus, State, replayed}
+use Rattle.model.specs.Records.{recordsOf}
 
 -- Refusal 6: "room shorter than one word a stream (admit) or a release (replay, step); for a later request, shorter than what its
 -- success writes".
@@ -112,7 +114,7 @@ listedWaits s = inSheetOrder s (λ k j. waitWord (verdictOf s k j))
 
 -- What a buffer holds after an entry that writes `values` into its first words: "the rest unchanged", and "any refusal
 -- changes no lent word".
-unfoldable pub bufferAfter : Answer → List ℕ → List ℕ → List ℕ
+unfoldable pub bufferAfter : {X : Type 0} → Answer → List X → List X → List X
 bufferAfter answer values room = cond (eqb (answer .number) 0) (values ++ drop (length values) room) room
 
 -- "one stream": "listed wait", "J". Refusals 1 to 5, 8, 7.
@@ -144,6 +146,24 @@ replayAnswer s log horizon room =
 unfoldable pub replayBuffer : List ℕ → List ℕ → ℕ → List ℕ → List ℕ
 replayBuffer s log horizon room =
     bufferAfter (replayAnswer s log horizon (length room)) (replayed s log horizon .begins) room
+
+-- Document 02, "Eight": the replay with a buffer of so many words and a list of so many stream records. "Numbers and refusals as the replay,
+-- then 6 when the list is shorter than the streams."
+unfoldable pub recordsAnswer : List ℕ → List ℕ → ℕ → ℕ → ℕ → Answer
+recordsAnswer s log horizon room list =
+    replayAnswer s log horizon room
+    orElse roomRefusal (totalStreams s) list
+    orElse replayAnswer s log horizon room
+
+-- The buffer after it, with a list of so many records.
+unfoldable pub recordsBuffer : List ℕ → List ℕ → ℕ → ℕ → List ℕ → List ℕ
+recordsBuffer s log horizon list room =
+    bufferAfter (recordsAnswer s log horizon (length room) list) (replayed s log horizon .begins) room
+
+-- The list after it, with a buffer of so many words: the sheet's streams have the records of the whole replay; "records past them stay".
+unfoldable pub recordsList : List ℕ → List ℕ → ℕ → ℕ → List StreamRecord → List StreamRecord
+recordsList s log horizon room list =
+    bufferAfter (recordsAnswer s log horizon room (length list)) (recordsOf s log (replayed s log horizon .begins)) list
 
 -- "one step", with a buffer of so many words: its refusals, 1 to 5, 9, 16, 6.
 unfoldable pub stepRefusal : List ℕ → List ℕ → Bus → ℕ → Answer

@@ -8,12 +8,14 @@ use lib.ListN.{length}
 use lib.Dec.{leb, ltb}
 use Rattle.theory.specs.Count.{countBelow}
 use Rattle.model.specs.declared.Answer.{Answer}
+use Rattle.model.specs.declared.StreamRecord.{StreamRecord}
 use Rattle.model.specs.declared.Verdict.the-variants.{Listed}
 use Rattle.model.specs.Limits.{notBegun}
 use Rattle.model.specs.Refusal.{success, refuse}
 use Rattle.model.specs.Sheet.{word, budget, cycle, deadline, jitter, runningNumber, totalStreams, OnSheet, Valid}
 use Rattle.model.specs.Analysis.{streamOf, outranks, interference, HasWait, IsLate, higherStreams, timingOf, verdictOf}
 use Rattle.model.specs.Protocol.{releases, releaseTick, releaseStream, EventsFit, KeepsPeriod, stateAt, startOf, nodeOf, TurnsBefore, replayed}
+use Rattle.model.specs.Records.{recordAt}
 use Rattle.model.specs.Answers.{oneStreamAnswer, admitAnswer, admitBuffer, replayAnswer}
 
 -- Stream j of node k has that "listed wait", at J.
@@ -144,6 +146,15 @@ pub record WholeReplay (s log : List ℕ) (horizon turns next : ℕ) (words : Li
       → (i tick : ℕ)
       → DueAt s log horizon k j (latest i) tick i
       → DeliveredBy s log words i tick
+
+-- Demand 3 read off a list of stream records (document 02, "Eight"): a stream under its premises, all of whose messages are due before the
+-- horizon, has none that waited longer than the listed wait.
+abbrev pub NoneOver : List ℕ → List ℕ → ℕ → List StreamRecord → Type 0
+NoneOver s log horizon records =
+    (k j wait cycles : ℕ) →
+    Premises s log k j wait cycles →
+    ((i : ℕ) → i < releases log → releaseStream log i ≡ runningNumber s k j → releaseTick log i + wait < horizon) →
+    recordAt records (pred (runningNumber s k j)) .over ≡ 0
 
 -- Demand 3, whole, and the promise of delivery: for any valid sheet, and any log and horizon that the replay accepts, with the numbers
 -- that the replay answers and the words that it writes.

@@ -7,6 +7,7 @@ pub mod Analysis
 pub mod Protocol
 pub mod Trace
 pub mod Idle
+pub mod Records
 pub mod Answers
 pub mod Demand
 pub mod Bench

@@ -61,7 +61,7 @@ abbrev pub runningNumber : List ℕ → ℕ → ℕ → ℕ
 runningNumber s k j = streamsBefore s k + j
 
 -- A value for each stream of the sheet, "in sheet order": those of node 1's streams, then of node 2's, and so on.
-abbrev pub inSheetOrder : List ℕ → (ℕ → ℕ → ℕ) → List ℕ
+abbrev pub inSheetOrder : {X : Type 0} → List ℕ → (ℕ → ℕ → X) → List X
 inSheetOrder s value = joinedFrom (λ k. valuesFrom (value k) 1 (streamCount s k)) 1 (nodes s)
 
 -- The words before the first body of n nodes: header and contents.

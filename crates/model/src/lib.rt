@@ -17,6 +17,15 @@ pub struct Bus {
     pub turns: u32,
 }
 
+// Document 02's "stream record": how many messages of a stream have begun, the longest wait of one of them, and how many waited longer
+// than the listed wait.
+#[repr(C)]
+pub struct StreamRecord {
+    pub begun: u32,
+    pub longest: u32,
+    pub over: u32,
+}
+
 // What the analysis finds of one stream: it is "late", or it has a "listed wait", found at J full cycles.
 pub enum Verdict {
     Late,

@@ -3,6 +3,7 @@ pub mod Order
 pub mod Tests
 pub mod Lexicographic
 pub mod Counting
+pub mod Largest
 pub mod Sums
 pub mod Listing
 pub mod Overwriting
@@ -21,3 +22,4 @@ pub mod BusyWindow
 pub mod QueueTheorem
 pub mod ClassArrivals
 pub mod Ranked
+pub mod Ordering

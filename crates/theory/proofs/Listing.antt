@@ -1,29 +1,56 @@
--- Lists made number by number: how long they are, and where each value stands. Assumes nothing.
+-- Lists made number by number: how long they are, where each value stands, and what a function makes of them. Assumes nothing.
 use Prim.Native.Nat.{ℕ, zero, suc, _+_, _-_, _≤_, _<_}
 use native.Mathlib.Nat.{eq-or-lt-of-le, le-refl}
+use native.Mathlib.Numerals.{add-one}
 use native.Mathlib.Decide.{le-ind, decLt}
 use native.Mathlib.Omega.{arith}
 use mathlib.Core.Path.{_≡_, refl, sym, _∙_, ap}
 use mathlib.Core.Logic.{_⊎_, inl, inr}
-use mathlib.Core.List.{List, [], _++_, append-nil, append-assoc}
-use lib.ListN.{length, getD, length-append, List·getD-append}
-use lib.Seq.{getD-append-add}
+use mathlib.Core.List.{List, [], _∷_, _++_, append-nil, append-assoc, map, map-append}
+use lib.ListN.{length, getD, set, take, length-append, List·getD-append}
+use lib.Seq.{getD-append-add, take-suc-set}
 use Rattle.theory.specs.Listing.{valuesFrom, joinedFrom}
 
 -- There is a value for each number,
-pub values-length : (f : ℕ → ℕ) (from count : ℕ) → length (valuesFrom f from count) ≡ count
+pub values-length : {X : Type 0} (f : ℕ → X) (from count : ℕ) → length (valuesFrom f from count) ≡ count
 unfolding valuesFrom
 values-length f from zero = refl
 values-length f from (suc count) = ap suc (values-length f (suc from) count)
 
 -- the one that f has there.
-pub values-at : (f : ℕ → ℕ) (from count i : ℕ) → i < count → getD (valuesFrom f from count) i 0 ≡ f (from + i)
+pub values-there : {X : Type 0} (none : X) (f : ℕ → X) (from count i : ℕ) → i < count → getD (valuesFrom f from count) i none ≡ f (from + i)
 unfolding valuesFrom
-values-at f from zero i inside = absurd (omega arith)
-values-at f from (suc count) zero inside = ap f (omega arith)
-values-at f from (suc count) (suc i) inside = values-at f (suc from) count i (omega arith) ∙ ap f (omega arith)
+values-there none f from zero i inside = absurd (omega arith)
+values-there none f from (suc count) zero inside = ap f (omega arith)
+values-there none f from (suc count) (suc i) inside = values-there none f (suc from) count i (omega arith) ∙ ap f (omega arith)
 
-module _ (f : ℕ → List ℕ) where
+pub values-at : (f : ℕ → ℕ) (from count i : ℕ) → i < count → getD (valuesFrom f from count) i 0 ≡ f (from + i)
+values-at f = values-there 0 f
+
+-- One value more.
+pub values-next : {X : Type 0} (f : ℕ → X) (from count : ℕ) → valuesFrom f from count ++ (f (from + count) ∷ []) ≡ valuesFrom f from (count + 1)
+unfolding valuesFrom
+values-next f from zero = let here : from + 0 ≡ from = omega arith in rw here refl
+values-next f from (suc count) =
+    let there : from + suc count ≡ suc from + count = omega arith in
+    let all : suc count + 1 ≡ suc (count + 1) = omega arith in
+    rw (there, all) (ap (λ more. f from ∷ more) (values-next f (suc from) count))
+
+-- A function of each value: of those of one list,
+pub values-map : {X Y : Type 0} (g : X → Y) (f : ℕ → X) (from count : ℕ) → map g (valuesFrom f from count) ≡ valuesFrom (λ n. g (f n)) from count
+unfolding valuesFrom
+values-map g f from zero = refl
+values-map g f from (suc count) = ap (λ more. g (f from) ∷ more) (values-map g f (suc from) count)
+
+-- and of those of lists joined.
+pub joined-map : {X Y : Type 0} (g : X → Y) (f : ℕ → List X) (from count : ℕ)
+    → map g (joinedFrom f from count) ≡ joinedFrom (λ n. map g (f n)) from count
+unfolding joinedFrom
+joined-map g f from zero = refl
+joined-map g f from (suc count) =
+    map-append g (f from) (joinedFrom f (suc from) count) ∙ ap (λ more. map g (f from) ++ more) (joined-map g f (suc from) count)
+
+module _ {X : Type 0} (f : ℕ → List X) where
   -- The first list, and those after it.
   pub joined-cons : (from count : ℕ) → joinedFrom f from (suc count) ≡ f from ++ joinedFrom f (suc from) count
   unfolding joinedFrom
@@ -55,7 +82,7 @@ module _ (f : ℕ → List ℕ) where
       ap (λ one. joinedFrom f from count ++ one) (sym (joined-one (from + count))) ∙ joined-append from count 1
 
 -- The lists start where those before them end: `start` says where, counted from anywhere.
-module _ (f : ℕ → List ℕ) (start : ℕ → ℕ) where
+module _ {X : Type 0} (f : ℕ → List X) (start : ℕ → ℕ) where
   abbrev Follows : ℕ → Type 0
   Follows from = (k : ℕ) → from ≤ k → start (suc k) ≡ start k + length (f k)
 
@@ -81,18 +108,18 @@ module _ (f : ℕ → List ℕ) (start : ℕ → ℕ) where
       le-ind (λ m. start a ≤ start m) (le-refl _) (λ m past ih. omega (arith, follows m (omega arith))) b high
 
   -- A value of one of the lists stands after all lists before it.
-  pub joined-at : (from count k p at : ℕ)
+  pub joined-there : (none : X) (from count k p at : ℕ)
       → Follows from
       → from ≤ k
       → k < from + count
       → p < length (f k)
       → start from + at ≡ start k + p
-      → getD (joinedFrom f from count) at 0 ≡ getD (f k) p 0
-  joined-at from zero k p at follows low high inside same = absurd (omega arith)
-  joined-at from (suc count) k p at follows low high inside same =
-      ap (λ ws. getD ws at 0) (joined-cons f from count) ∙ go (eq-or-lt-of-le low) (joined-at (suc from) count k p)
+      → getD (joinedFrom f from count) at none ≡ getD (f k) p none
+  joined-there none from zero k p at follows low high inside same = absurd (omega arith)
+  joined-there none from (suc count) k p at follows low high inside same =
+      ap (λ ws. getD ws at none) (joined-cons f from count) ∙ go (eq-or-lt-of-le low) (joined-there none (suc from) count k p)
     where
-      more : List ℕ
+      more : List X
       more = joinedFrom f (suc from) count
 
       go : (from ≡ k) ⊎ (from < k)
@@ -102,19 +129,19 @@ module _ (f : ℕ → List ℕ) (start : ℕ → ℕ) where
           → k < suc from + count
           → p < length (f k)
           → start (suc from) + at ≡ start k + p
-          → getD more at 0 ≡ getD (f k) p 0)
-          → getD (f from ++ more) at 0 ≡ getD (f k) p 0
+          → getD more at none ≡ getD (f k) p none)
+          → getD (f from ++ more) at none ≡ getD (f k) p none
       go (inl here) rest =
           let place : at ≡ p = omega (arith, ap start here) in
           let few : at < length (f from) = omega (arith, ap (λ n. length (f n)) here) in
-          List·getD-append (f from) more 0 at few ∙ rw (place, here) refl
+          List·getD-append (f from) more none at few ∙ rw (place, here) refl
       go (inr less) rest =
           let next = follows from (le-refl from) in
           let grown = starts-grow from (suc from) k follows (omega arith) less in
           let left : ℕ = at - length (f from) in
           let whole : at ≡ length (f from) + left = omega (arith, next, grown) in
-          ap (λ n. getD (f from ++ more) n 0) whole
-          ∙ getD-append-add (f from) more left 0
+          ap (λ n. getD (f from ++ more) n none) whole
+          ∙ getD-append-add (f from) more left none
           ∙ rest left (later from follows) less (omega arith) inside (omega (arith, next, grown))
 
   -- Every place in them is in one of the lists.
@@ -150,6 +177,15 @@ module _ (f : ℕ → List ℕ) (start : ℕ → ℕ) where
             same = omega (arith, next, one .same);
           }
 
+pub joined-at : (f : ℕ → List ℕ) (start : ℕ → ℕ) (from count k p at : ℕ)
+    → ((k : ℕ) → from ≤ k → start (suc k) ≡ start k + length (f k))
+    → from ≤ k
+    → k < from + count
+    → p < length (f k)
+    → start from + at ≡ start k + p
+    → getD (joinedFrom f from count) at 0 ≡ getD (f k) p 0
+joined-at f start = joined-there f start 0
+
 -- Stretches of lists that follow on each other, joined, are all those lists joined: stretch k has the lists from `start k` on.
 pub joined-stretches : (g : ℕ → List ℕ) (start count : ℕ → ℕ) (from n all : ℕ)
     → ((k : ℕ) → from ≤ k → start (suc k) ≡ start k + count k)
@@ -169,3 +205,35 @@ joined-stretches g start count from (suc n) all follows same =
     let whole : count from + left ≡ all = omega (arith, next, grown, ap start there) in
     let rest = joined-stretches g start count (suc from) n left after (omega (arith, next, grown, ap start there)) in
     rw (rest, next, joined-append g (start from) (count from) left, whole) refl
+
+-- The values of a list's first ones are the first of its values,
+pub take-map : (f : ℕ → ℕ) (i : ℕ) (xs : List ℕ) → take i (map f xs) ≡ map f (take i xs)
+take-map f zero xs = refl
+take-map f (suc i) [] = refl
+take-map f (suc i) (x ∷ xs) = ap (λ more. f x ∷ more) (take-map f i xs)
+
+-- a value stands where that which it is of stands,
+pub map-at : (f : ℕ → ℕ) (xs : List ℕ) (i : ℕ) → i < length xs → getD (map f xs) i 0 ≡ f (getD xs i 0)
+map-at f [] i inside = absurd (omega arith)
+map-at f (x ∷ xs) zero inside = refl
+map-at f (x ∷ xs) (suc i) inside = map-at f xs i (omega arith)
+
+-- and the value of the next stands after those of the first ones.
+pub map-next : (f : ℕ → ℕ) (xs : List ℕ) (i : ℕ) → i < length xs → map f (take (suc i) xs) ≡ map f (take i xs) ++ (f (getD xs i 0) ∷ [])
+map-next f [] i inside = absurd (omega arith)
+map-next f (x ∷ xs) zero inside = refl
+map-next f (x ∷ xs) (suc i) inside = ap (λ more. f x ∷ more) (map-next f xs i (omega arith))
+
+-- Stored there, it goes on the values.
+pub stored-next : (f : ℕ → ℕ) (room xs : List ℕ) (i v : ℕ)
+    → i < length room
+    → i < length xs
+    → v ≡ f (getD xs i 0)
+    → take i room ≡ map f (take i xs)
+    → take (i + 1) (set room i v) ≡ map f (take (i + 1) xs)
+stored-next f room xs i v free inside value so-far =
+    rw (add-one i)
+    (take-suc-set room i v free
+    ∙ ap (λ front. front ++ (v ∷ [])) so-far
+    ∙ ap (λ one. map f (take i xs) ++ (one ∷ [])) value
+    ∙ sym (map-next f xs i inside))

@@ -7,7 +7,7 @@ use native.Mathlib.Omega.{arith}
 use mathlib.Core.Path.{_≡_, refl, sym, ap}
 use mathlib.Core.Logic.{⊎-elim}
 use mathlib.Core.List.{List, [], _∷_, List·Memᴰ, List·Memᴰ·head, List·Memᴰ·tail, List·Memᴰ·cases-cons, List·Memᴰ·not-nil}
-use lib.ListN.{length}
+use lib.ListN.{length, getD, take}
 use Rattle.theory.specs.Sum.{sum, upTo, sumTo}
 
 module _ {A : Type 0} where
@@ -35,6 +35,16 @@ module _ {A : Type 0} where
   unfolding sum
   sum-const c [] = omega arith
   sum-const c (y ∷ ys) = omega (arith, sum-const c ys)
+
+-- The sum over one more of a list's first ones has its term.
+pub sum-next : (f : ℕ → ℕ) (xs : List ℕ) (i : ℕ) → i < length xs → sum f (take (i + 1) xs) ≡ sum f (take i xs) + f (getD xs i 0)
+unfolding sum
+sum-next f xs i inside = rw (add-one i) (go xs i inside)
+  where
+    go : (xs : List ℕ) (i : ℕ) → i < length xs → sum f (take (suc i) xs) ≡ sum f (take i xs) + f (getD xs i 0)
+    go [] i inside = absurd (omega arith)
+    go (x ∷ xs) zero inside = omega arith
+    go (x ∷ xs) (suc i) inside = omega (arith, go xs i (omega arith))
 
 module _ (f : ℕ → ℕ) where
   -- Up to 0 there is nothing to add.

@@ -3,3 +3,4 @@ pub mod Sum
 pub mod Count
 pub mod Queue
 pub mod Listing
+pub mod Ordering

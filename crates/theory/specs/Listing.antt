@@ -6,12 +6,12 @@ use lib.ListN.{length, take, drop}
 use lib.Dec.{ltb}
 
 -- f at `from`, at the number after it, and so on, `count` values.
-unfoldable pub valuesFrom : (ℕ → ℕ) → ℕ → ℕ → List ℕ
+unfoldable pub valuesFrom : {X : Type 0} → (ℕ → X) → ℕ → ℕ → List X
 valuesFrom f from zero = []
 valuesFrom f from (suc count) = f from ∷ valuesFrom f (suc from) count
 
 -- The list f at `from`, then the one at the number after it, and so on, `count` lists joined into one.
-unfoldable pub joinedFrom : (ℕ → List ℕ) → ℕ → ℕ → List ℕ
+unfoldable pub joinedFrom : {X : Type 0} → (ℕ → List X) → ℕ → ℕ → List X
 joinedFrom f from zero = []
 joinedFrom f from (suc count) = f from ++ joinedFrom f (suc from) count
 

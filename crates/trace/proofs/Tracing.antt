@@ -22,8 +22,9 @@ use Rattle.model.proofs.Protocol.RunWords.{words-done, words-fuel, words-next, 
 use Rattle.model.proofs.Protocol.TurnCount.{begun-most}
 use Rattle.model.proofs.Trace.TurnWords.{listed-count, listed-even}
 use Rattle.queue.specs.Queue.{ValidNode, Arrived, FirstUnbegun}
+use Rattle.bus.specs.Turns.{stateIn}
 use Rattle.bus.proofs.TurnSteps.{served-by}
-use Rattle.bus.proofs.RunSteps.{stateIn, Running, running-from, running-on, running-idle}
+use Rattle.bus.proofs.RunSteps.{Running, passed-idle, running-from, running-on, running-passed}
 use Rattle.trace.specs.declared.Progress.{Progress}
 use Rattle.trace.specs.Progress.{NoneBefore}
 use Rattle.trace.proofs.TurnFits.{turn-fits}
@@ -75,10 +76,11 @@ module _ (s log numbers : List ℕ) (held horizon : ℕ) where
       let slot = valid-fits s (node .valid) .header .slotFrom in
       let silent = silent-before (slotTicks s) (p .bus .tick) until slot later in
       let quiet : Quiet log (take n begins) until = λ i there unbegun. none i there (sym (getD-take n begins i 0 there) ∙ unbegun) in
+      let passed = passed-idle s log horizon {room = begins} (p .bus) node (here .running .turnsTo) later inRun quiet in
       let idle = words-idle s log numbers horizon horizon st until k (node .from) (node .upTo) quiet (silent .last) (omega (arith, silent .last)) in
       let fuel = words-fuel s log numbers horizon slot (k + horizon) horizon st (omega arith) (omega arith) in
       record {
-        running = running-idle s log horizon first arrived later inRun quiet (here .running);
+        running = running-passed s log horizon passed first (arrived .inLog) (here .running);
         heldTo = least;
         counted = here .counted;
         sameRoom = here .sameRoom;

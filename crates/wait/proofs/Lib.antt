@@ -3,3 +3,4 @@ pub mod Periods
 pub mod Split
 pub mod Tries
 pub mod WaitBounds
+pub mod FirstTries

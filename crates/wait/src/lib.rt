@@ -1,9 +1,11 @@
 // The listed wait by the least periods and jitters of the streams above and a node's timing: the search for J. Nothing here knows a
 // sheet.
 ghost use mathlib.Core.Path.{_≡_};
+ghost use Prim.Native.Nat.{_≤_};
 ghost use Rattle.model.specs.Analysis.{waitFor, verdict, triesWorth};
 ghost use Rattle.wait.specs.Periods.{interferenceBy};
 ghost use Rattle.wait.specs.InRange.{HigherRanges, Ranges, StreamRanges, FoundJ};
+ghost use Rattle.wait.specs.Jump.{NoneBelow};
 use interference::interference_of;
 use interference::long;
 use jump::ALL;
@@ -15,6 +17,7 @@ use model::Verdict;
 
 mod interference; // interference.rt: what the streams above can release
 mod jump; // jump.rt: how far the search may jump
+pub mod near; // near.rt: the verdict where H is known for the first cycles
 
 // How many J are worth a try: the late test. The deadline runs from the event, a message is queued up to the stream's own jitter after
 // it, and it is delivered when the turn that has it is over: so the jitter and the longest turn, its protocol slot included, are
@@ -40,13 +43,20 @@ fn wait_at(periods: &[u32], jitters: &[u32], h: u64, cycles: u32, timing: Timing
     cycles * timing.cycle - 1 + place as u32 * timing.message
 }
 
-// The search for J: from 1 on, as long as so many cycles are worth a try, and from each that does not suffice to the next that may.
-pub fn verdict_by(periods: &[u32], jitters: &[u32], timing: Timing, stream: Stream) -> Verdict
-    requires { ⌜ HigherRanges (now periods) (now jitters) × Ranges timing × StreamRanges stream ⌝ }
+// The search for J from a number on below which none suffices, as long as so many cycles are worth a try, and from each that does not suffice to the
+// next that may.
+fn verdict_from(
+    periods: &[u32],
+    jitters: &[u32],
+    timing: Timing,
+    stream: Stream,
+    from: u32,
+) -> Verdict
+    requires { ⌜ HigherRanges (now periods) (now jitters) × Ranges timing × StreamRanges stream × (1 ≤ from) × NoneBelow (interferenceBy (now periods) (now jitters)) timing 1 from ⌝ }
     ensures { λ r. ⌜ r ≡ verdict (interferenceBy (now (periods .entry)) (now (jitters .entry))) timing stream ⌝ }
 {
     let tries = tries_worth(timing, stream);
-    let mut cycles: u32 = 1;
+    let mut cycles = from;
     let mut reach: u32 = ALL;
     while cycles <= tries {
         let h = interference_of(periods, jitters, cycles * timing.cycle - 1);
@@ -59,4 +69,12 @@ pub fn verdict_by(periods: &[u32], jitters: &[u32], timing: Timing, stream: Stre
         cycles = next;
     }
     Verdict::Late
+}
+
+// The search for J, from 1 on.
+pub fn verdict_by(periods: &[u32], jitters: &[u32], timing: Timing, stream: Stream) -> Verdict
+    requires { ⌜ HigherRanges (now periods) (now jitters) × Ranges timing × StreamRanges stream ⌝ }
+    ensures { λ r. ⌜ r ≡ verdict (interferenceBy (now (periods .entry)) (now (jitters .entry))) timing stream ⌝ }
+{
+    verdict_from(periods, jitters, timing, stream, 1)
 }

@@ -5,8 +5,8 @@ ghost use lib.ListN.{length};
 ghost use Prim.Native.Nat.{_≤_};
 ghost use Rattle.model.specs.Limits.{maxNodes};
 ghost use Rattle.model.specs.Sheet.{totalStreams, sheetRefusal, OnSheet, Valid};
-ghost use Rattle.model.specs.Answers.{oneStreamAnswer, admitAnswer, admitBuffer, replayAnswer, replayBuffer, stepAnswer, stepBus, stepBuffer};
-ghost use Rattle.model.specs.Demand.{Judged, AllJudged, WholeReplay};
+ghost use Rattle.model.specs.Answers.{oneStreamAnswer, admitAnswer, admitBuffer, replayAnswer, replayBuffer, recordsAnswer, recordsBuffer, recordsList, stepAnswer, stepBus, stepBuffer};
+ghost use Rattle.model.specs.Demand.{Judged, AllJudged, WholeReplay, NoneOver};
 ghost use Rattle.pieces.specs.Pieces.{resumeAnswer, resumeBuffer};
 ghost use Rattle.pieces.specs.Words.{checkpointIn, resumeWords, ContinuesIn};
 ghost use Rattle.budgets.specs.Answer.{findAnswer, findBuffer};
@@ -15,6 +15,7 @@ ghost use Rattle.tables.specs.Tables.{lentTables};
 ghost use Rattle.tables.specs.Writing.{writeAnswer, writeBuffer, ReadsBack, WrittenAgain};
 use model::Answer;
 use model::Bus;
+use model::StreamRecord;
 
 // Refusals 1 to 5 of a sheet, or 0, 0, 0 for a valid one.
 #[no_mangle]
@@ -69,6 +70,25 @@ pub extern "C" fn wistorvan_replay(
     ensures demand { λ r. ⌜ (r .number ≡ 0 → WholeReplay (now (sheet .entry)) (now (log .entry)) horizon (r .second) (r .third) (now (room .exit))) ⌝ }
 {
     bus::replay(sheet, log, horizon, room)
+}
+
+// The replay with a list of stream records in sheet order: messages begun, longest wait, and how many waited longer than the listed wait.
+// Numbers and refusals as the replay, then 6 where the list is shorter than the streams. Where it is not refused, demand 3 holds of what it
+// answers and writes, and is read off the list.
+#[no_mangle]
+pub extern "C" fn wistorvan_replay_records(
+    sheet: &[u32],
+    log: &[u32],
+    horizon: u32,
+    room: &mut [u32],
+    records: &mut [StreamRecord],
+) -> Answer
+    ensures answer { λ r. ⌜ r ≡ recordsAnswer (now (sheet .entry)) (now (log .entry)) horizon (length (now (room .entry))) (length (now (records .entry))) ⌝ }
+    ensures buffer { λ r. ⌜ now (room .exit) ≡ recordsBuffer (now (sheet .entry)) (now (log .entry)) horizon (length (now (records .entry))) (now (room .entry)) ⌝ }
+    ensures records { λ r. ⌜ now (records .exit) ≡ recordsList (now (sheet .entry)) (now (log .entry)) horizon (length (now (room .entry))) (now (records .entry)) ⌝ }
+    ensures demand { λ r. ⌜ (r .number ≡ 0 → WholeReplay (now (sheet .entry)) (now (log .entry)) horizon (r .second) (r .third) (now (room .exit)) × NoneOver (now (sheet .entry)) (now (log .entry)) horizon (now (records .exit))) ⌝ }
+{
+    recording::replay_with_records(sheet, log, horizon, room, records)
 }
 
 // "One step": changes the lent bus record in place. Thin: the turn itself takes the record by value.

@@ -15,9 +15,11 @@ mod named_budgets;
 mod named_full;
 mod named_jitters;
 mod named_pieces;
+mod named_records;
 mod named_tables;
 mod pieces;
 mod random;
+mod records;
 mod rounds;
 mod sheets;
 mod tables;
@@ -35,8 +37,10 @@ pub(crate) use deadlines::total_tries;
 pub use named::named;
 pub use named_budgets::named_budgets;
 pub use named_pieces::named_pieces;
+pub use named_records::named_records;
 pub use named_tables::named_tables;
 pub use pieces::{made_up_case, pieces_case, Piece, PiecesCase};
+pub use records::{records_case, RecordsCase};
 pub use tables::{tables_case, TablesCase};
 
 /// A generated replay starts no more turns, and most start far fewer.

@@ -1,12 +1,14 @@
 -- The streams of a node, and those of them that are ranked above one. Assumes nothing.
 use Prim.Native.Nat.{ℕ, zero, suc, _+_, _≤_, _<_, zero-le}
-use native.Mathlib.Nat.{eq-or-lt-of-le}
+use native.Mathlib.Nat.{eq-or-lt-of-le, zero-add}
 use native.Mathlib.Omega.{arith}
 use mathlib.Core.Path.{_≡_, refl, sym, ap, _∙_}
 use mathlib.Core.Logic.{_⊎_, inl, inr, ⊎-elim}
 use mathlib.Core.Bool.{Bool, true, false, cond, true≢false}
 use mathlib.Core.List.{List, [], _∷_, List·Memᴰ, List·Memᴰ·head, List·Memᴰ·tail, List·Memᴰ·cases-cons, List·Memᴰ·not-nil}
 use lib.ListN.{length}
+use Rattle.theory.specs.Sum.{sum, sumTo}
+use Rattle.theory.proofs.Sums.{sumTo-none, sumTo-first, sumTo-same}
 use Rattle.model.specs.declared.Stream.{Stream}
 use Rattle.model.specs.Analysis.{streamOf, streamsFrom, outranks, above}
 
@@ -83,3 +85,31 @@ from-above x y (z ∷ zs) m = go (outranks z x) refl m (from-above x y zs)
         (λ r. let w = ih r in (List·Memᴰ·tail (w .0), w .1))
         (List·Memᴰ·cases-cons l)
     go false e l ih = let w = ih l in (List·Memᴰ·tail (w .0), w .1)
+
+-- A sum over those above a stream is one over all streams of the node, in which the others count nothing.
+module _ (f : Stream → ℕ) (s : List ℕ) (k : ℕ) (x : Stream) where
+  abbrev counted : ℕ → ℕ
+  counted i = cond (outranks (streamOf s k i) x) (f (streamOf s k i)) 0
+
+  above-sum-from : (j count : ℕ) → sum f (above x (streamsFrom s k (suc j) count)) ≡ sumTo (λ i. counted (j + i)) count
+  unfolding above streamsFrom sum
+  above-sum-from j zero = sym (sumTo-none (λ i. counted (j + i)))
+  above-sum-from j (suc count) =
+      first (outranks (streamOf s k (suc j)) x) (above x (streamsFrom s k (suc (suc j)) count))
+      ∙ ap (λ n. counted (suc j) + n) (above-sum-from (suc j) count ∙ sumTo-same _ _ count (λ i low high. ap counted (shifted i)))
+      ∙ ap (λ i. counted i + sumTo (λ i. counted (j + suc i)) count) next
+      ∙ sym (sumTo-first (λ i. counted (j + i)) count)
+    where
+      next : suc j ≡ j + 1
+      next = omega arith
+
+      shifted : (i : ℕ) → suc j + i ≡ j + suc i
+      shifted i = omega arith
+
+      first : (b : Bool) (ys : List Stream)
+          → sum f (cond b (streamOf s k (suc j) ∷ ys) ys) ≡ cond b (f (streamOf s k (suc j))) 0 + sum f ys
+      first true ys = refl
+      first false ys = omega arith
+
+  pub above-sum : (count : ℕ) → sum f (above x (streamsFrom s k 1 count)) ≡ sumTo counted count
+  above-sum count = above-sum-from 0 count ∙ sumTo-same _ _ count (λ i low high. ap counted (zero-add i))

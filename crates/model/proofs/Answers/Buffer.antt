@@ -9,12 +9,12 @@ use Rattle.model.specs.declared.Answer.{Answer}
 use Rattle.model.specs.Answers.{bufferAfter}
 
 -- A refusal changes no word.
-pub buffer-kept : (a : Answer) (values room : List ℕ) → (a .number ≡ 0 → ⊥) → room ≡ bufferAfter a values room
+pub buffer-kept : {X : Type 0} (a : Answer) (values room : List X) → (a .number ≡ 0 → ⊥) → room ≡ bufferAfter a values room
 unfolding bufferAfter
 buffer-kept a values room refuses = rw (ne-eqb (a .number) 0 refuses) refl
 
 -- A success leaves its values and the rest.
-pub buffer-written : (a : Answer) (values room : List ℕ)
+pub buffer-written : {X : Type 0} (a : Answer) (values room : List X)
     → a .number ≡ 0
     → values ++ drop (length values) room ≡ bufferAfter a values room
 unfolding bufferAfter

@@ -25,7 +25,7 @@ use Rattle.model.proofs.Demand.Demand2.{demand2}
 use Rattle.model.proofs.Demand.Demand3.{demand3}
 
 -- "Sheet A".
-abbrev A : List ℕ
+abbrev pub A : List ℕ
 A = sheetA 40 40 60
 
 -- A stream of node 1 of sheet A, or of one like it.
@@ -179,8 +179,18 @@ once-second (suc (suc (suc zero))) b s = last b (s .ordered) (s .inLog) (s .seco
     last (suc (suc (suc (suc (suc b))))) low high e = absurd (omega arith)
 once-second (suc (suc (suc (suc a)))) b s = absurd (omega (arith, s .ordered, s .inLog))
 
--- The premises of demand 3 for stream 2, whose J is 2.
-second-premises : Premises A logPeriodic 1 2 33 2
+-- The premises of demand 3 for stream 1,
+pub first-premises : Premises A logPeriodic 1 1 16 1
+unfolding sheetA logPeriodic sum upTo cycle streamsFrom outranks above mostReleases interference waitFor search verdict verdictWith
+first-premises =
+    record {
+      onSheet = on-node-1 40 40 60 1 (omega arith) (omega arith);
+      listed = refl;
+      kept = record { itself = apart-kept A logPeriodic 1 1 apart; rankedAbove = λ i on e. absurd (highest 40 40 60 1 refl refl i on e) };
+    }
+
+-- and for stream 2, whose J is 2.
+pub second-premises : Premises A logPeriodic 1 2 33 2
 unfolding sheetA logPeriodic sum upTo cycle streamsFrom outranks above mostReleases interference waitFor search verdict verdictWith
 second-premises =
     record {
@@ -206,14 +216,7 @@ periodic turns next words whole =
       second =
           whole .withinWait 1 2 33 2 second-premises 3 (record { inLog = omega arith; ofStream = refl; inTime = omega arith });
       first =
-          whole .withinWait 1 1 16 1
-          (record {
-            onSheet = on-node-1 40 40 60 1 (omega arith) (omega arith);
-            listed = refl;
-            kept = record { itself = apart-kept A logPeriodic 1 1 apart; rankedAbove = λ i on e. absurd (highest 40 40 60 1 refl refl i on e) };
-          })
-          4
-          (record { inLog = omega arith; ofStream = refl; inTime = omega arith });
+          whole .withinWait 1 1 16 1 first-premises 4 (record { inLog = omega arith; ofStream = refl; inTime = omega arith });
     }
 
 -- The promise of delivery where J is 2: its message, whose event is its release at 1, is delivered by 61, its deadline, a tick before

@@ -1,4 +1,4 @@
--- `wait::verdict_by` meets its contract: no number below the present one suffices, and so the first that does is the smallest.
+-- `wait::verdict_from` meets its contract: no number below the present one suffices, and so the first that does is the smallest.
 -- Assumes nothing.
 use Prim.Native.Nat.{_≤_, _-_, _+_, _*_}
 use native.Mathlib.Nat.{mul-le-mul, mul-le-mul-right, le-of-lt}
@@ -11,21 +11,21 @@ use Rattle.wait.specs.Periods.{interferenceBy}
 use Rattle.wait.specs.InRange.{Tried}
 use Rattle.wait.specs.Jump.{NoneBelow}
 use Rattle.wait.proofs.Tries.{cycles-to, tries-to}
-use Rattle.wait.proofs.verdict_by.Statement.{statement}
-use Rattle.wait.proofs.verdict_by.Tie as tie
+use Rattle.wait.proofs.verdict_from.Statement.{statement}
+use Rattle.wait.proofs.verdict_from.Tie as tie
 
 abbrev Inv-loop : tie.InvT-loop
-Inv-loop periods jitters timing tries cycles₀ reach₀ cycles reach =
+Inv-loop periods jitters timing from tries cycles₀ reach₀ cycles reach =
     (1 ≤ cycles) × NoneBelow (interferenceBy periods jitters) timing 1 cycles
 
 abbrev μ-loop : tie.MeasureT-loop
-μ-loop periods jitters timing tries cycles₀ reach₀ cycles reach = tries + 1 - cycles
+μ-loop periods jitters timing from tries cycles₀ reach₀ cycles reach = tries + 1 - cycles
 
 tries-worth-requires : tie.Need-tries-worth-requires Inv-loop μ-loop
 tries-worth-requires c κs = (c .before .before .pre .1, c .before .before .pre .2)
 
 loop-holds : tie.Need-loop-holds Inv-loop μ-loop
-loop-holds c = (omega arith, λ i from enough. from)
+loop-holds c = let p = c .before .before .before .pre in (p .3, p .4)
 
 -- So many cycles are worth a try, and within the time.
 worth : (c : tie.In-loop Inv-loop μ-loop) → c .before .loop .cycles * c .before .before .before .before .before .args .timing .cycle ≤ 1_000_000_001
@@ -129,8 +129,8 @@ returns-2 c =
     let past = rw (c .before .before .tries-worth .ensures) at (c .loop-test .left) in
     none-left (interferenceBy (a .periods .now) (a .jitters .now)) (a .timing) (a .stream) (omega (arith, p .1 .shares .cycleFrom)) (c .before .loop .inv .1) past
 
-pub verdict-by-spec : {M : Type 1} → statement M
-verdict-by-spec =
+pub verdict-from-spec : {M : Type 1} → statement M
+verdict-from-spec =
     tie.close
     (tie.spec
     Inv-loop

@@ -1,0 +1,3 @@
+-- Laws of the limits. Assumes nothing.
+pub mod Filled
+pub mod Passed
