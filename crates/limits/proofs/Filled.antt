@@ -4,7 +4,7 @@ use Prim.Native.Nat.{ℕ, _+_, _-_, _≤_, _<_}
 use native.Mathlib.Decide.{ℕ-discrete, decLt}
 use native.Mathlib.Omega.{arith}
 use mathlib.Core.Path.{_≡_, refl, sym, _∙_, ap}
-use mathlib.Core.List.{List, _++_, map}
+use mathlib.Core.List.{List, _++_}
 use lib.ListN.{length, getD, set, take, drop, length-append, length-drop, length-set, List·getD-append}
 use lib.Seq.{take-at, getD-set-same, getD-set-other, getD-append-add, getD-drop, ext-getD}
 use Rattle.theory.specs.Listing.{valuesFrom, joinedFrom, replacedAt}
@@ -13,9 +13,8 @@ use Rattle.theory.proofs.Overwriting.{over-front, over-next}
 use Rattle.theory.proofs.Sums.{sumTo-none}
 use Rattle.model.specs.Sheet.{streamCount, streamsUpTo, totalStreams, inSheetOrder}
 use Rattle.model.specs.Analysis.{verdictOf}
-use Rattle.model.specs.Records.{verdictsOf}
 use Rattle.model.proofs.Sheet.SheetOrder.{upto-length, ordered-length, ordered-map}
-use Rattle.limits.specs.Limits.{limitWord}
+use Rattle.limits.specs.Limits.{limitWord, LimitsOf}
 use Rattle.limits.specs.Ranking.{Numbers}
 
 -- The limit of stream j of node k.
@@ -129,11 +128,13 @@ module _ (s : List ℕ) (value : ℕ → ℕ → ℕ) (old : List ℕ) where
       ∙ ap (replacedAt old 0) (joined-next own 1 i)
       ∙ written (i + 1)
 
--- A table with the limits of all streams in its front: they are those of the verdicts.
-pub limits-front : (s table rest : List ℕ)
-    → table ≡ inSheetOrder s (limitAt s) ++ rest
-    → take (totalStreams s) table ≡ map limitWord (verdictsOf s)
-limits-front s table rest all =
-    ap (take (totalStreams s)) all
-    ∙ take-at (inSheetOrder s (limitAt s)) rest (totalStreams s) (ordered-length s (limitAt s))
-    ∙ sym (ordered-map limitWord s (verdictOf s))
+-- A table with the limits of all streams in its front.
+pub limits-listed : (s table rest : List ℕ) → table ≡ inSheetOrder s (limitAt s) ++ rest → LimitsOf s table
+limits-listed s table rest all =
+    record {
+      long = omega (arith, ap length all, length-append (inSheetOrder s (limitAt s)) rest, ordered-length s (limitAt s));
+      front =
+          ap (take (totalStreams s)) all
+          ∙ take-at (inSheetOrder s (limitAt s)) rest (totalStreams s) (ordered-length s (limitAt s))
+          ∙ sym (ordered-map limitWord s (verdictOf s));
+    }

@@ -161,13 +161,11 @@ fn list_nodes(sheet: &[u32], n: u32, cycle: u32, limits: &mut [u32])
     }
 }
 
-// A table with the limits of a sheet's streams in its front.
-pub fn limits_of(sheet: &[u32]) -> [u32; 256]
-    requires { ⌜ Valid (now sheet) ⌝ }
-    ensures { λ r. ⌜ LimitsOf (now (sheet .entry)) r ⌝ }
+// The limits of a sheet's streams in the front of a table.
+pub fn put_limits(sheet: &[u32], limits: &mut [u32])
+    requires { ⌜ Valid (now sheet) × (totalStreams (now sheet) ≤ length (now limits)) ⌝ }
+    ensures { λ _. ⌜ LimitsOf (now (sheet .entry)) (now (limits .exit)) ⌝ }
 {
     let cycle = analysis::cycle_of(sheet);
-    let mut limits = [0u32; 256];
-    list_nodes(sheet, word_at(sheet, 0), cycle, &mut limits);
-    limits
+    list_nodes(sheet, word_at(sheet, 0), cycle, limits);
 }

@@ -140,7 +140,8 @@ pub fn replay_with_records(
     clear_begins(log, room);
     let streams = count_streams(sheet);
     records::clear_records(records, streams);
-    let limits = limits::limits_of(sheet);
+    let mut limits: [u32; 256] = [0; 256];
+    limits::put_limits(sheet, &mut limits[..]);
     let mut found: [usize; 16] = [0; 16];
     let end = run_to_with_records(
         sheet,

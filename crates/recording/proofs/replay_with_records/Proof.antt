@@ -58,6 +58,8 @@ use Rattle.model.proofs.Answer.Laws as A′
 use Rattle.model.proofs.Bus as B°
 use Rattle.model.proofs.Bus.Laws as B′
 use Rattle.model.proofs.StreamRecord as R°
+use Rattle.model.proofs.Sheet.NodeSums.{total-most}
+use Rattle.model.proofs.Sheet.ValidSheet.{valid-fits}
 use Rattle.limits.specs.Limits.{LimitsOf}
 use Rattle.queue.specs.Queue.{Rising}
 use Rattle.recording.specs.Recording.{recordsRefusal, KnownStreams, UpToDate}
@@ -84,10 +86,10 @@ use Rattle.records.proofs.clear_records as clears
 use Rattle.records.proofs.clear_records.Met as clears-thm
 use Rattle.records.proofs.clear_records.Symbol as clears-def
 use Rattle.records.proofs.clear_records.Symbol.{name as #records·clear-records}
-use Rattle.limits.proofs.limits_of as limits
-use Rattle.limits.proofs.limits_of.Met as limits-thm
-use Rattle.limits.proofs.limits_of.Symbol as limits-def
-use Rattle.limits.proofs.limits_of.Symbol.{name as #limits·limits-of}
+use Rattle.limits.proofs.put_limits as limits
+use Rattle.limits.proofs.put_limits.Met as limits-thm
+use Rattle.limits.proofs.put_limits.Symbol as limits-def
+use Rattle.limits.proofs.put_limits.Symbol.{name as #limits·put-limits}
 use Rattle.recording.proofs.run_to_with_records as runs-to
 use Rattle.recording.proofs.run_to_with_records.Met as runs-to-thm
 use Rattle.recording.proofs.run_to_with_records.Symbol as runs-to-def
@@ -135,7 +137,7 @@ module _ {M : Type 1} (𝓤 : URA M) (H : Heap 𝓤) (A : Atoms 𝓤) (mem′ : 
     pub begins-meets : Triple 𝓤 (C #recording·clear-begins) ClearBegins
     pub count-meets : Triple 𝓤 (C #recording·count-streams) CountStreams
     pub clears-meets : Triple 𝓤 (C #records·clear-records) ClearRecords
-    pub limits-meets : Triple 𝓤 (C #limits·limits-of) Limits
+    pub limits-meets : Triple 𝓤 (C #limits·put-limits) Limits
     pub run-meets : Triple 𝓤 (C #recording·run-to-with-records) RunTo
 
 -- a test that does not hold, and one of which it does not hold that it does not
@@ -237,13 +239,19 @@ module _ {M : Type 1} (𝓤 : URA M) (H : Heap 𝓤) (A : Atoms 𝓤) (W : Given
   abbrev to-records : ℕ → GName → ℕ → ClearRecords 𝓤 H A mem′ run .Ghost
   to-records β γ₂ n = (((β ∷ [], tt), (fullShare, tt), tt, args-records γ₂ n, vals-records n), tt)
 
-  abbrev to-limits : Limits 𝓤 H A mem′ run .Ghost
-  to-limits = (((κ₀, tt), (q₀, tt), tt, args-sheet, vals-sheet), tt)
+  -- the two arrays lie at l₈ and l₉; the limits' is lent for ζ, to be filled, and then both for δ and ε
+  abbrev args-limits : GName → ℕ → RefT (List ℕ) × (RefT (List ℕ) × Unit {0})
+  args-limits γ₅ l₈ = (sheet, (sliceAt l₈ 0 γ₅ (replicate 256 0), tt))
+
+  abbrev vals-limits : ℕ → List Val × (List Val × Unit {0})
+  vals-limits l₈ = (slice sheet ∷ [], (sliceVal (l₈, 0) 256 ∷ [], tt))
+
+  abbrev to-limits : ℕ → GName → ℕ → Limits 𝓤 H A mem′ run .Ghost
+  to-limits ζ γ₅ l₈ = (((κ₀, (ζ ∷ [], tt)), (q₀, (fullShare, tt)), tt, args-limits γ₅ l₈, vals-limits l₈), tt)
 
   places-enough : maxBudget ≤ 16
   places-enough = omega arith
 
-  -- the two arrays lie at l₈ and l₉, and are lent for δ and ε
   abbrev ArgRun : Type 0
   ArgRun = RefT (List ℕ) × (RefT (List ℕ) × (ℕ × (RefT (List ℕ) × (RefT (List ℕ) × (RefT (List ℕ) × (RefT (List StreamRecord) × Unit {0}))))))
 
@@ -288,6 +296,10 @@ module _ {M : Type 1} (𝓤 : URA M) (H : Heap 𝓤) (A : Atoms 𝓤) (W : Given
   ok : refusal-is .number ≡ 0 → RecordsAccepted (sheet .now) (log .now) horizon (length ys) (length rs)
   ok none = records-checked (sheet .now) (log .now) horizon ys rs none
 
+  -- the array has a word for each stream that a sheet can have
+  room-for-limits : RecordsAccepted (sheet .now) (log .now) horizon (length ys) (length rs) → Valid (sheet .now) × (totalStreams (sheet .now) ≤ 256)
+  room-for-limits handed = (handed .valid, total-most (sheet .now) (valid-fits (sheet .now) (handed .valid)))
+
   -- both were cleared
   from-start : {zs : List ℕ} {cs : List StreamRecord} {n : ℕ}
       → zs ≡ cleared
@@ -319,124 +331,132 @@ module _ {M : Type 1} (𝓤 : URA M) (H : Heap 𝓤) (A : Atoms 𝓤) (W : Given
         alloc1 ! (λ l₀. alloc1 ! (λ l₁. alloc1 ! (λ l₂. alloc1 ! (λ l₃. alloc1 ! (λ l₄. alloc1 ! (λ l₅. alloc1 ! (λ l₆. alloc1 ! (λ l₇.
         alloc1 ! (λ l₈. alloc1 ! (λ l₉. alloc1 ! (λ l₁₀. alloc1 ! (λ l₁₁. alloc1 ! (λ l₁₂. alloc1 ! (λ l₁₃. alloc1 ! (λ l₁₄. alloc1 ! (λ l₁₅.
         alloc1 ! (λ l₁₆. alloc1 ! (λ l₁₇. alloc1 ! (λ l₁₈. alloc1 ! (λ l₁₉. alloc1 ! (λ l₂₀. alloc1 ! (λ l₂₁. alloc1 ! (λ l₂₂. alloc1 ! (λ l₂₃.
-        alloc1 ! (λ l₂₄. alloc1 ! (λ l₂₅. alloc1 ! (λ l₂₆. alloc1 ! (λ l₂₇. alloc0 ! $ params1 ! $
-        pass1 ! (init ! 52 refl (shr-slice-lawful 𝓤 H A W (named 0) κ₀ u32 .typed sheet (slice sheet ∷ []) sheet-is .0)) $
-        pass1 ! (init ! 50 refl (shr-slice-lawful 𝓤 H A W (named 1) κ₁ u32 .typed log (slice log ∷ []) log-is .0)) $
-        pass1 ! (init ! 48 refl (tt, record { fits = short })) $ pass1 ! (init ! 46 refl (tt, (tt, (record { fits = fits .0 }, tt)))) $
-        pass1 ! (init ! 44 refl (tt, (tt, (record { fits = fits′ .0 }, tt)))) $ pass0 ! $
-        move ! (61 ∷ 62 ∷ 63 ∷ 64 ∷ 56 ∷ 57 ∷ 59 ∷ 60 ∷ []) $
-        -- between two calls: [κ₀ 0; κ₁ 1; κ₂ 2; κ₃ 3; the sheet's 4; the log's 5; the buffer's 6; the list's 7; _27 8; _26 10; …; _0 62; the
-        -- horizon's 64]
-        assigns ! (of-opd ! (field-of ! 54 1 refl refl refl)) (from ! (stop !)) (init ! 40 refl (tt, record { fits = fits .0 })) $
-        assigns ! (of-opd ! (field-of ! 52 1 refl refl refl)) (from ! (stop !)) (init ! 38 refl (tt, record { fits = fits′ .0 })) $
+        alloc1 ! (λ l₂₄. alloc1 ! (λ l₂₅. alloc1 ! (λ l₂₆. alloc1 ! (λ l₂₇. alloc1 ! (λ l₂₈. alloc0 ! $ params1 ! $
+        pass1 ! (init ! 54 refl (shr-slice-lawful 𝓤 H A W (named 0) κ₀ u32 .typed sheet (slice sheet ∷ []) sheet-is .0)) $
+        pass1 ! (init ! 52 refl (shr-slice-lawful 𝓤 H A W (named 1) κ₁ u32 .typed log (slice log ∷ []) log-is .0)) $
+        pass1 ! (init ! 50 refl (tt, record { fits = short })) $ pass1 ! (init ! 48 refl (tt, (tt, (record { fits = fits .0 }, tt)))) $
+        pass1 ! (init ! 46 refl (tt, (tt, (record { fits = fits′ .0 }, tt)))) $ pass0 ! $
+        move ! (63 ∷ 64 ∷ 65 ∷ 66 ∷ 58 ∷ 59 ∷ 61 ∷ 62 ∷ []) $
+        -- between two calls: [κ₀ 0; κ₁ 1; κ₂ 2; κ₃ 3; the sheet's 4; the log's 5; the buffer's 6; the list's 7; _28 8; _27 10; …; _0 64; the
+        -- horizon's 66]
+        assigns ! (of-opd ! (field-of ! 56 1 refl refl refl)) (from ! (stop !)) (init ! 42 refl (tt, record { fits = fits .0 })) $
+        assigns ! (of-opd ! (field-of ! 54 1 refl refl refl)) (from ! (stop !)) (init ! 40 refl (tt, record { fits = fits′ .0 })) $
         -- `check_lent` is asked; what the tables own is had twice
         move ! (5 ∷ []) $ twice ! (named 1) κ₁ u32 log (slice log ∷ []) $ move ! (6 ∷ []) $ twice ! (named 0) κ₀ u32 sheet (slice sheet ∷ []) $
         has-word ! w64 (length rs) (fits′ .0) $ has-word ! w64 (length ys) (fits .0) $ has-word ! w32 horizon short $
         move ! (3 ∷ 5 ∷ 0 ∷ 1 ∷ 2 ∷ 7 ∷ 8 ∷ []) $ asks W check.signature (check.spec 𝓤 H A mem′ run) to-check (id⊢ 𝓤 (emp 𝓤)) $
-        calls-at ! fm (CheckLent 𝓤 H A mem′ run) (known .check-meets) to-check (and-then ! (gets ! 59 refl) (and-then ! (gets ! 57 refl)
-        (and-then ! (gets ! 55 refl) (and-then ! (gets ! 39 refl) (and-then ! (gets ! 37 refl) (no-more !)))))) (λ w.
+        calls-at ! fm (CheckLent 𝓤 H A mem′ run) (known .check-meets) to-check (and-then ! (gets ! 61 refl) (and-then ! (gets ! 59 refl)
+        (and-then ! (gets ! 57 refl) (and-then ! (gets ! 41 refl) (and-then ! (gets ! 39 refl) (no-more !)))))) (λ w.
         hears W check.ended (check.clauses 𝓤 H A mem′ run) to-check w ! tt (λ refusal _ is. heard ! _ (λ same. move ! (0 ∷ 1 ∷ 4 ∷ 5 ∷ 2 ∷ 3 ∷ []) $
-        lands-struct ! 50 A°.the-type A′.the-laws refusal is refl refl $
-        assigns ! (bin ! (field-of ! 50 0 refl refl refl) (lit ! tt) tt) (from ! (stop !)) (init ! 36 refl (tt, tt)) $
-        unless ! (gets ! 36 refl)
+        lands-struct ! 52 A°.the-type A′.the-laws refusal is refl refl $
+        assigns ! (bin ! (field-of ! 52 0 refl refl refl) (lit ! tt) tt) (from ! (stop !)) (init ! 38 refl (tt, tt)) $
+        unless ! (gets ! 38 refl)
         (λ no.
         -- refused: that is the answer, and both lists are as they were
-        assigns ! (of-opd ! (gets ! 50 refl)) (from ! (stop !)) (init ! 62 refl
+        assigns ! (of-opd ! (gets ! 52 refl)) (from ! (stop !)) (init ! 64 refl
         (LL.lawful A°.the-type A′.the-laws 𝓤 H A W .typed refusal _ (told A°.the-type A′.the-laws refusal w is) .0)) $
-        returns-within ! Post refl (look ! 62 refl) $ frees-all ! 8 refl $
+        returns-within ! Post refl (look ! 64 refl) $ frees-all ! 8 refl $
         move ! (6 ∷ []) $ gives-up ! u32 (named 2) κ₂ γ _ ys b o $ move ! (7 ∷ []) $ gives-up ! R°.the-row (named 3) κ₃ γ′ _ rs b′ o′ $
         move ! (2 ∷ 3 ∷ 4 ∷ 5 ∷ 6 ∷ 7 ∷ 8 ∷ 1 ∷ 0 ∷ []) $
         by ! (exits refusal ys rs (records-refused (sheet .now) (log .now) horizon ys rs same (refuses refusal no)) refl refl
         (told A°.the-type A′.the-laws refusal w is)))
         (λ passed.
         -- not refused: the buffer is lent to `clear_begins`
-        reborrows ! 54 32 30 refl refl refl refl refl refl tt tt (fits .0) $
+        reborrows ! 56 34 32 refl refl refl refl refl refl tt tt (fits .0) $
         lft-new ! tt (λ α. move ! (7 ∷ 3 ∷ []) $ lends-again ! tt u32 (named 2) (named 1) κ₂ (α ∷ []) q₂ γ _ ys b o fits (λ γ₁.
-        -- [the buffer as lent 0; the lender's part 1; the open borrow 2; α 3; κ₀ 4; κ₁ 5; κ₃ 6; the sheet's 7; the log's 8; the list's 9; _27 10; …]
+        -- [the buffer as lent 0; the lender's part 1; the open borrow 2; α 3; κ₀ 4; κ₁ 5; κ₃ 6; the sheet's 7; the log's 8; the list's 9; _28 10; …]
         move ! (8 ∷ []) $ twice ! (named 1) κ₁ u32 log (slice log ∷ []) $ move ! (0 ∷ 2 ∷ 7 ∷ 5 ∷ []) $
         asks W begins.signature (begins.spec 𝓤 H A mem′ run) (to-begins α γ₁) (shown 𝓤 (ok (passes refusal same passed) .roomFor)) $
         calls-at ! fm (ClearBegins 𝓤 H A mem′ run) (known .begins-meets) (to-begins α γ₁)
-        (and-then ! (gets ! 58 refl) (and-then ! (gets ! 30 refl) (no-more !))) (λ w₁.
+        (and-then ! (gets ! 60 refl) (and-then ! (gets ! 32 refl) (no-more !))) (λ w₁.
         hears W begins.ended (begins.clauses 𝓤 H A mem′ run) (to-begins α γ₁) w₁ ! tt (λ u₁ zs₁ is₁. heard ! _ (λ clear. last-is ! (λ len.
-        -- [its last list 0; κ₁ 1; α 2; the log's 3; the lender's part 4; the open borrow 5; κ₀ 6; κ₃ 7; the sheet's 8; the list's 9; _27 10; …]
-        land ! (from ! (stop !)) (init ! 36 refl (nothing-lawful 𝓤 H A W .typed u₁ (w₁ ∷ []) is₁ .0)) $
+        -- [its last list 0; κ₁ 1; α 2; the log's 3; the lender's part 4; the open borrow 5; κ₀ 6; κ₃ 7; the sheet's 8; the list's 9; _28 10; …]
+        land ! (from ! (stop !)) (init ! 38 refl (nothing-lawful 𝓤 H A W .typed u₁ (w₁ ∷ []) is₁ .0)) $
         move ! (2 ∷ []) $ lft-end ! tt $ move ! (0 ∷ 4 ∷ 1 ∷ 5 ∷ []) $
         comes-back ! tt u32 (named 2) κ₂ (α ∷ []) q₂ γ γ₁ ys (zs₁ .1 .0) b o fits len $ move ! (4 ∷ 2 ∷ 1 ∷ 5 ∷ 6 ∷ 3 ∷ 0 ∷ []) $
         -- the streams are counted
         move ! (4 ∷ []) $ twice ! (named 0) κ₀ u32 sheet (slice sheet ∷ []) $ move ! (0 ∷ 2 ∷ []) $
         asks W count.signature (count.spec 𝓤 H A mem′ run) to-count (shown 𝓤 (ok (passes refusal same passed) .valid)) $
-        calls-at ! fm (CountStreams 𝓤 H A mem′ run) (known .count-meets) to-count (and-then ! (gets ! 60 refl) (no-more !)) (λ w₂.
+        calls-at ! fm (CountStreams 𝓤 H A mem′ run) (known .count-meets) to-count (and-then ! (gets ! 62 refl) (no-more !)) (λ w₂.
         hears W count.ended (count.clauses 𝓤 H A mem′ run) to-count w₂ ! tt (λ n _ is₂. heard ! _ (λ total.
-        -- [κ₀ 0; the sheet's 1; κ₁ 2; κ₂ 3; κ₃ 4; the log's 5; the buffer's 6; the list's 7; _27 8; …]: the list is lent to `clear_records`
-        lands-word ! 48 w64 n is₂ refl refl $
-        reborrows ! 52 28 26 refl refl refl refl refl refl tt tt (fits′ .0) $
+        -- [κ₀ 0; the sheet's 1; κ₁ 2; κ₂ 3; κ₃ 4; the log's 5; the buffer's 6; the list's 7; _28 8; …]: the list is lent to `clear_records`
+        lands-word ! 50 w64 n is₂ refl refl $
+        reborrows ! 54 30 28 refl refl refl refl refl refl tt tt (fits′ .0) $
         lft-new ! tt (λ β. move ! (8 ∷ 5 ∷ []) $ lends-again ! tt R°.the-row (named 3) (named 0) κ₃ (β ∷ []) q₃ γ′ _ rs b′ o′ fits′ (λ γ₂.
-        -- [the list as lent 0; the lender's part 1; the open borrow 2; β 3; κ₀ 4; the sheet's 5; κ₁ 6; κ₂ 7; the log's 8; the buffer's 9; _27 10; …]
+        -- [the list as lent 0; the lender's part 1; the open borrow 2; β 3; κ₀ 4; the sheet's 5; κ₁ 6; κ₂ 7; the log's 8; the buffer's 9; _28 10; …]
         has-word ! w64 n (is₂ .1) $ move ! (1 ∷ 0 ∷ 4 ∷ []) $
         asks W clears.signature (clears.spec 𝓤 H A mem′ run) (to-records β γ₂ n) (shown 𝓤 (rw total (ok (passes refusal same passed) .listFor))) $
         calls-at ! fm (ClearRecords 𝓤 H A mem′ run) (known .clears-meets) (to-records β γ₂ n)
-        (and-then ! (gets ! 27 refl) (and-then ! (gets ! 49 refl) (no-more !))) (λ w₃.
+        (and-then ! (gets ! 29 refl) (and-then ! (gets ! 51 refl) (no-more !))) (λ w₃.
         hears W clears.ended (clears.clauses 𝓤 H A mem′ run) (to-records β γ₂ n) w₃ ! tt (λ u₃ zs₃ is₃. heard ! _ (λ clear′. last-is ! (λ len′.
-        -- [its last list 0; β 1; the lender's part 2; the open borrow 3; κ₀ 4; the sheet's 5; κ₁ 6; κ₂ 7; the log's 8; the buffer's 9; _27 10; …]
-        land ! (from ! (stop !)) (store ! 36 refl (nothing-lawful 𝓤 H A W .typed u₃ (w₃ ∷ []) is₃ .0)) $
+        -- [its last list 0; β 1; the lender's part 2; the open borrow 3; κ₀ 4; the sheet's 5; κ₁ 6; κ₂ 7; the log's 8; the buffer's 9; _28 10; …]
+        land ! (from ! (stop !)) (store ! 38 refl (nothing-lawful 𝓤 H A W .typed u₃ (w₃ ∷ []) is₃ .0)) $
         move ! (1 ∷ []) $ lft-end ! tt $ move ! (0 ∷ 2 ∷ 1 ∷ 3 ∷ []) $
         comes-back ! tt R°.the-row (named 3) κ₃ (β ∷ []) q₃ γ′ γ₂ rs (zs₃ .0) b′ o′ fits′ len′ $ move ! (2 ∷ 4 ∷ 5 ∷ 1 ∷ 3 ∷ 6 ∷ 7 ∷ 0 ∷ []) $
-        -- the limits, in a local array
-        move ! (4 ∷ []) $ twice ! (named 0) κ₀ u32 sheet (slice sheet ∷ []) $ move ! (0 ∷ 2 ∷ []) $
-        asks W limits.signature (limits.spec 𝓤 H A mem′ run) to-limits (shown 𝓤 (ok (passes refusal same passed) .valid)) $
-        calls-at ! fm (Limits 𝓤 H A mem′ run) (known .limits-meets) to-limits (and-then ! (gets ! 60 refl) (no-more !)) (λ w₄.
-        hears W limits.ended (limits.clauses 𝓤 H A mem′ run) to-limits w₄ ! tt (λ xs _ is₄. heard ! _ (λ listed.
-        -- [κ₀ 0; the sheet's 1; κ₁ 2; κ₂ 3; κ₃ 4; the log's 5; the buffer's 6; the list's 7; _27 8; …]
-        land ! (from ! (stop !)) (init ! 24 refl (array-lawful 𝓤 H A W u32 (uint-lawful 𝓤 H A W w32) 256 .typed xs (w₄ ∷ []) is₄ .0)) $
-        assigns ! (of-opd ! (gets ! 24 refl)) (from ! (stop !)) (init ! 46 refl
-        (array-lawful 𝓤 H A W u32 (uint-lawful 𝓤 H A W w32) 256 .typed xs (w₄ ∷ []) is₄ .0)) $
-        -- the places of a turn, in another
-        assigns ! (rep ! 16 (lit ! tt)) (from ! (stop !)) (init ! 44 refl
-        (array-lawful 𝓤 H A W usize (uint-lawful 𝓤 H A W w64) 16 .typed (replicate 16 0) _ (zeros-are 16) .0)) $
+        -- the limits, in a local array, which is lent to `put_limits`
+        assigns ! (rep ! 256 (lit ! tt)) (from ! (stop !)) (init ! 48 refl
+        (array-lawful 𝓤 H A W u32 (uint-lawful 𝓤 H A W w32) 256 .typed (replicate 256 0) _ (zeros-are w32 (lit< tt) 256) .0)) $
+        assigns ! (addr ! (from ! (stop !))) (from ! (stop !)) (init ! 26 refl (tt, tt)) $
+        assigns ! (agg ! (and-then ! (gets ! 26 refl) (and-then ! (lit ! tt) (no-more !)))) (from ! (stop !))
+        (init ! 24 refl (tt, (tt, (record { fits = lit< tt }, tt)))) $
+        owned ! (Array u32 256) (Is (Array u32 256)) (array-makes 𝓤 H A W u32 (uint-makes 𝓤 H A W w32) 256) (replicate 256 0) _
+        (zeros-are w32 (lit< tt) 256) $
+        move ! (49 ∷ 0 ∷ []) $ array-row ! u32 tt 256 (replicate 256 0) _ l₈ (λ _. lft-new ! tt (λ ζ. move ! (1 ∷ []) $
+        lends-row ! tt u32 (named 1) (ζ ∷ []) (replicate 256 0) l₈ 0 (lit< tt, lit< tt) (λ γ₅.
+        -- [the array as lent 0; the lender's part 1; ζ 2; κ₀ 3; κ₁ 4; κ₂ 5; κ₃ 6; the sheet's 7; the log's 8; the buffer's 9; the list's 10; _28 11; …]
+        move ! (7 ∷ []) $ twice ! (named 0) κ₀ u32 sheet (slice sheet ∷ []) $ move ! (0 ∷ 2 ∷ 5 ∷ 4 ∷ []) $
+        asks W limits.signature (limits.spec 𝓤 H A mem′ run) (to-limits ζ γ₅ l₈) (shown 𝓤 (room-for-limits (ok (passes refusal same passed)))) $
+        calls-at ! fm (Limits 𝓤 H A mem′ run) (known .limits-meets) (to-limits ζ γ₅ l₈)
+        (and-then ! (gets ! 62 refl) (and-then ! (gets ! 25 refl) (no-more !))) (λ w₄.
+        hears W limits.ended (limits.clauses 𝓤 H A mem′ run) (to-limits ζ γ₅ l₈) w₄ ! tt (λ u₄ zs₄ is₄. heard ! _ (λ listed. last-is ! (λ long.
+        -- [its last list 0; κ₀ 1; ζ 2; the sheet's 3; the lender's part 4; κ₁ 5; κ₂ 6; κ₃ 7; the log's 8; the buffer's 9; the list's 10; _28 11; …]
+        land ! (from ! (stop !)) (store ! 39 refl (nothing-lawful 𝓤 H A W .typed u₄ (w₄ ∷ []) is₄ .0)) $
+        move ! (2 ∷ []) $ lft-end ! tt $ move ! (0 ∷ 4 ∷ 1 ∷ []) $ row-back ! tt u32 (ζ ∷ []) γ₅ 256 (zs₄ .1 .0) l₈ 0 $
+        -- [the limits 0; κ₀ 1; the sheet's 2; κ₁ 3; κ₂ 4; κ₃ 5; the log's 6; the buffer's 7; the list's 8; _28 9; …]: the places of a turn, in another
+        assigns ! (rep ! 16 (lit ! tt)) (from ! (stop !)) (init ! 47 refl
+        (array-lawful 𝓤 H A W usize (uint-lawful 𝓤 H A W w64) 16 .typed (replicate 16 0) _ (zeros-are w64 (lit< tt) 16) .0)) $
         -- the four references
-        assigns ! (addr ! (from ! (stop !))) (from ! (stop !)) (init ! 22 refl (tt, tt)) $
-        assigns ! (agg ! (and-then ! (gets ! 22 refl) (and-then ! (lit ! tt) (no-more !)))) (from ! (stop !))
-        (init ! 20 refl (tt, (tt, (record { fits = lit< tt }, tt)))) $
-        assigns ! (addr ! (from ! (stop !))) (from ! (stop !)) (init ! 18 refl (tt, tt)) $
-        assigns ! (agg ! (and-then ! (gets ! 18 refl) (and-then ! (lit ! tt) (no-more !)))) (from ! (stop !))
-        (init ! 16 refl (tt, (tt, (record { fits = lit< tt }, tt)))) $
-        reborrows ! 54 14 12 refl refl refl refl refl refl tt tt (fits .0) $ reborrows ! 52 10 8 refl refl refl refl refl refl tt tt (fits′ .0) $
+        assigns ! (addr ! (from ! (stop !))) (from ! (stop !)) (init ! 23 refl (tt, tt)) $
+        assigns ! (agg ! (and-then ! (gets ! 23 refl) (and-then ! (lit ! tt) (no-more !)))) (from ! (stop !))
+        (init ! 21 refl (tt, (tt, (record { fits = lit< tt }, tt)))) $
+        assigns ! (addr ! (from ! (stop !))) (from ! (stop !)) (init ! 19 refl (tt, tt)) $
+        assigns ! (agg ! (and-then ! (gets ! 19 refl) (and-then ! (lit ! tt) (no-more !)))) (from ! (stop !))
+        (init ! 17 refl (tt, (tt, (record { fits = lit< tt }, tt)))) $
+        reborrows ! 56 15 13 refl refl refl refl refl refl tt tt (fits .0) $ reborrows ! 54 11 9 refl refl refl refl refl refl tt tt (fits′ .0) $
         -- both arrays are lent, each for a lifetime of its own
-        owned ! (Array u32 256) (Is (Array u32 256)) (array-makes 𝓤 H A W u32 (uint-makes 𝓤 H A W w32) 256) xs _ is₄ $
-        move ! (47 ∷ 0 ∷ []) $ array-row ! u32 tt 256 xs w₄ l₈ (λ long. lft-new ! tt (λ δ. move ! (1 ∷ []) $
-        lends-row-shared ! tt u32 (named 2) (δ ∷ []) xs l₈ 0 (few xs long) (λ γ₃.
-        rewrite ! 0 (λ (m : ℕ). ‵ (ShrSlice (named 2) (δ ∷ []) u32 .own (sliceAt l₈ 0 γ₃ xs) (sliceVal (l₈, 0) m ∷ []))) long refl $
-        owned ! (Array usize 16) (Is (Array usize 16)) (array-makes 𝓤 H A W usize (uint-makes 𝓤 H A W w64) 16) (replicate 16 0) _ (zeros-are 16) $
-        move ! (48 ∷ 0 ∷ []) $ array-row ! usize tt 16 (replicate 16 0) _ l₉ (λ _. lft-new ! tt (λ ε. move ! (1 ∷ []) $
+        lft-new ! tt (λ δ. move ! (1 ∷ []) $ lends-row-shared ! tt u32 (named 2) (δ ∷ []) (zs₄ .1 .0) l₈ 0 (few (zs₄ .1 .0) long) (λ γ₃.
+        rewrite ! 0 (λ (m : ℕ). ‵ (ShrSlice (named 2) (δ ∷ []) u32 .own (sliceAt l₈ 0 γ₃ (zs₄ .1 .0)) (sliceVal (l₈, 0) m ∷ []))) long refl $
+        owned ! (Array usize 16) (Is (Array usize 16)) (array-makes 𝓤 H A W usize (uint-makes 𝓤 H A W w64) 16) (replicate 16 0) _ (zeros-are w64 (lit< tt) 16) $
+        move ! (50 ∷ 0 ∷ []) $ array-row ! usize tt 16 (replicate 16 0) _ l₉ (λ _. lft-new ! tt (λ ε. move ! (1 ∷ []) $
         lends-row ! tt usize (named 3) (ε ∷ []) (replicate 16 0) l₉ 0 (lit< tt, lit< tt) (λ γ₄.
         -- [the places as lent 0; the lender's part 1; ε 2; the limits as lent 3; the lender's part 4; δ 5; κ₀ 6; the sheet's 7; κ₁ 8; κ₂ 9; κ₃ 10;
-        -- the log's 11; the buffer's 12; the list's 13; _27 14; …]: the run is asked, and the buffer and the list are given up to it for good
+        -- the log's 11; the buffer's 12; the list's 13; _28 14; …]: the run is asked, and the buffer and the list are given up to it for good
         move ! (7 ∷ []) $ twice ! (named 0) κ₀ u32 sheet (slice sheet ∷ []) $ move ! (12 ∷ []) $ twice ! (named 1) κ₁ u32 log (slice log ∷ []) $
         has-word ! w32 horizon short $ move ! (3 ∷ 1 ∷ 0 ∷ 8 ∷ 5 ∷ 15 ∷ 16 ∷ 11 ∷ 12 ∷ 10 ∷ 7 ∷ 13 ∷ 14 ∷ []) $
-        asks W runs-to.signature (runs-to.spec 𝓤 H A mem′ run) (to-run δ ε γ₃ γ₄ l₈ l₉ xs (zs₁ .1 .0) (zs₃ .0))
+        asks W runs-to.signature (runs-to.spec 𝓤 H A mem′ run) (to-run δ ε γ₃ γ₄ l₈ l₉ (zs₄ .1 .0) (zs₁ .1 .0) (zs₃ .0))
         (may-run (ok (passes refusal same passed)) listed (from-start clear total clear′)) $
-        -- [what the run asks 0; the log's 1; the sheet's 2; the places' lender's part 3; the limits' 4; _27 5; …]
-        calls-at ! fm (RunTo 𝓤 H A mem′ run) (known .run-meets) (to-run δ ε γ₃ γ₄ l₈ l₉ xs (zs₁ .1 .0) (zs₃ .0)) (and-then ! (gets ! 55 refl)
-        (and-then ! (gets ! 53 refl) (and-then ! (gets ! 51 refl) (and-then ! (gets ! 17 refl) (and-then ! (gets ! 13 refl)
+        -- [what the run asks 0; the log's 1; the sheet's 2; the places' lender's part 3; the limits' 4; _28 5; …]
+        calls-at ! fm (RunTo 𝓤 H A mem′ run) (known .run-meets) (to-run δ ε γ₃ γ₄ l₈ l₉ (zs₄ .1 .0) (zs₁ .1 .0) (zs₃ .0)) (and-then ! (gets ! 57 refl)
+        (and-then ! (gets ! 55 refl) (and-then ! (gets ! 53 refl) (and-then ! (gets ! 17 refl) (and-then ! (gets ! 13 refl)
         (and-then ! (gets ! 9 refl) (and-then ! (gets ! 5 refl) (no-more !)))))))) (λ w₅.
-        hears W runs-to.ended (runs-to.clauses 𝓤 H A mem′ run) (to-run δ ε γ₃ γ₄ l₈ l₉ xs (zs₁ .1 .0) (zs₃ .0)) w₅ ! tt (λ end ws is₅.
+        hears W runs-to.ended (runs-to.clauses 𝓤 H A mem′ run) (to-run δ ε γ₃ γ₄ l₈ l₉ (zs₄ .1 .0) (zs₁ .1 .0) (zs₃ .0)) w₅ ! tt (λ end ws is₅.
         heard-and ! _ (λ ended-at. heard-and ! _ (λ begun. heard ! _ (λ kept.
         last-is ! (λ len₄. move ! (1 ∷ []) $ last-is ! (λ len₅. move ! (2 ∷ []) $ last-is ! (λ len₆.
         -- [the list's last 0; the buffer's 1; the places' 2; κ₀ 3; κ₁ 4; δ 5; ε 6; κ₂ 7; κ₃ 8; the log's 9; the sheet's 10; the lender's parts 11,
-        -- 12; _27 13; …]: both arrays are had again, as room
-        move ! (5 ∷ []) $ lft-end ! tt $ move ! (0 ∷ 12 ∷ []) $ row-back-shared ! tt u32 (δ ∷ []) xs l₈ 0 $ array-room ! u32 256 xs l₈ long $
+        -- 12; _28 13; …]: both arrays are had again, as room
+        move ! (5 ∷ []) $ lft-end ! tt $ move ! (0 ∷ 12 ∷ []) $ row-back-shared ! tt u32 (δ ∷ []) (zs₄ .1 .0) l₈ 0 $ array-room ! u32 256 (zs₄ .1 .0) l₈ long $
         move ! (6 ∷ []) $ lft-end ! tt $ move ! (0 ∷ 11 ∷ 4 ∷ []) $
-        row-back ! tt usize (ε ∷ []) γ₄ 16 (ws .1 .1 .1 .1 .0) l₉ 0 $ array-room ! usize 16 (ws .1 .1 .1 .1 .0) l₉ len₄ $ lays ! 45 $ lays ! 46 $
-        -- [the list's last 0; the buffer's 1; κ₀ 2; κ₁ 3; κ₂ 4; κ₃ 5; the log's 6; the sheet's 7; _27 8; …]: the answer
-        lands-struct ! 42 B°.the-type B′.the-laws end is₅ refl refl $
-        assigns ! (agg ! (and-then ! (lit ! tt) (and-then ! (field-of ! 42 2 refl refl refl)
-        (and-then ! (field-of ! 42 0 refl refl refl) (no-more !)))))
-        (from ! (stop !)) (init ! 62 refl (LL.lawful A°.the-type A′.the-laws 𝓤 H A W .typed (success (end .turns) (end .tick)) _
+        row-back ! tt usize (ε ∷ []) γ₄ 16 (ws .1 .1 .1 .1 .0) l₉ 0 $ array-room ! usize 16 (ws .1 .1 .1 .1 .0) l₉ len₄ $ lays ! 47 $ lays ! 48 $
+        -- [the list's last 0; the buffer's 1; κ₀ 2; κ₁ 3; κ₂ 4; κ₃ 5; the log's 6; the sheet's 7; _28 8; …]: the answer
+        lands-struct ! 44 B°.the-type B′.the-laws end is₅ refl refl $
+        assigns ! (agg ! (and-then ! (lit ! tt) (and-then ! (field-of ! 44 2 refl refl refl)
+        (and-then ! (field-of ! 44 0 refl refl refl) (no-more !)))))
+        (from ! (stop !)) (init ! 64 refl (LL.lawful A°.the-type A′.the-laws 𝓤 H A W .typed (success (end .turns) (end .tick)) _
         (is-success end w₅ is₅) .0)) $
-        returns ! (look ! 62 refl) $ frees-all ! 8 refl $ move ! (2 ∷ 3 ∷ 4 ∷ 5 ∷ 7 ∷ 6 ∷ 8 ∷ 1 ∷ 0 ∷ []) $
+        returns ! (look ! 64 refl) $ frees-all ! 8 refl $ move ! (2 ∷ 3 ∷ 4 ∷ 5 ∷ 7 ∷ 6 ∷ 8 ∷ 1 ∷ 0 ∷ []) $
         by ! (exits (success (end .turns) (end .tick)) (ws .1 .1 .1 .1 .1 .0) (ws .1 .1 .1 .1 .1 .1 .0)
         (records-ended (sheet .now) (log .now) horizon ys rs (from-start clear total clear′) (passes refusal same passed) ended-at begun kept)
-        (len₅ ∙ len) (len₆ ∙ len′) (is-success end w₅ is₅))))))))))))))))))))))))))))))))))))))))))))))))))))))))))))))))))
+        (len₅ ∙ len) (len₆ ∙ len′) (is-success end w₅ is₅))))))))))))))))))))))))))))))))))))))))))))))))))))))))))))))))))))))
 
 module _ {M : Type 1} (𝓤 : URA M) (H : Heap 𝓤) (A : Atoms 𝓤) (W : Given 𝓤 H A) (mem′ : Memory → SProp 𝓤) (run : Routine → Fun 𝓤) where
   goes : AllGo 𝓤 H A W 4 (replay.signature .params) (replay.ended .kept) stayed
@@ -479,7 +499,7 @@ replay-with-records-spec 𝓤 H 𝓜 𝓖 𝓡 =
           code.calls-recording·count-streams (count-thm.met 𝓤 H 𝓜 𝓖 𝓡);
       clears-meets = cited 𝓤 H (ClearRecords 𝓤 H (𝓖 .A) (𝓜 .mem) (𝓡 .run)) 𝓜 𝓡 code.env #records·clear-records clears-def.routine
           code.calls-records·clear-records (clears-thm.met 𝓤 H 𝓜 𝓖 𝓡);
-      limits-meets = cited 𝓤 H (Limits 𝓤 H (𝓖 .A) (𝓜 .mem) (𝓡 .run)) 𝓜 𝓡 code.env #limits·limits-of limits-def.routine code.calls-limits·limits-of
+      limits-meets = cited 𝓤 H (Limits 𝓤 H (𝓖 .A) (𝓜 .mem) (𝓡 .run)) 𝓜 𝓡 code.env #limits·put-limits limits-def.routine code.calls-limits·put-limits
           (limits-thm.met 𝓤 H 𝓜 𝓖 𝓡);
       run-meets = cited 𝓤 H (RunTo 𝓤 H (𝓖 .A) (𝓜 .mem) (𝓡 .run)) 𝓜 𝓡 code.env #recording·run-to-with-records runs-to-def.routine
           code.calls-recording·run-to-with-records (runs-to-thm.met 𝓤 H 𝓜 𝓖 𝓡);
