@@ -15,7 +15,7 @@ use Rattle.model.proofs.Sheet.ValidSheet.{StreamFits, SheetFits}
 use Rattle.model.proofs.Sheet.NodeSums.{cycle-least, cycle-most, body-whole}
 use Rattle.model.proofs.Analysis.NodeStreams.{streams-length, above-length}
 use Rattle.analysis.specs.Periods.{periodsOf, jittersOf}
-use Rattle.wait.specs.InRange.{HigherRanges, CycleAndBudget, Ranges, StreamRanges}
+use Rattle.interference.specs.InRange.{HigherRanges, CycleAndBudget, Ranges, StreamRanges}
 use Rattle.analysis.specs.Body.{Body}
 
 -- The body of a node has no more streams than a node may have, and all their words are there.

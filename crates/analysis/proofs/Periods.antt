@@ -6,8 +6,8 @@ use Rattle.model.specs.declared.Stream.{Stream}
 use Rattle.model.specs.declared.Timing.{Timing}
 use Rattle.model.specs.declared.Verdict.{Verdict}
 use Rattle.model.specs.Analysis.{interference, verdict, streamOf, higherStreams, timingWith, verdictWith}
-use Rattle.wait.specs.Periods.{interferenceBy}
-use Rattle.wait.proofs.Periods.{by-each}
+use Rattle.interference.specs.Periods.{interferenceBy}
+use Rattle.interference.proofs.Periods.{by-each}
 use Rattle.analysis.specs.Periods.{periodsOf, jittersOf, higherPeriods, higherJitters}
 
 -- Interference looks at the least periods and jitters.

@@ -2,7 +2,7 @@
 ghost use mathlib.Core.Path.{_≡_};
 ghost use Rattle.model.specs.Sheet.{cycle as fullCycle, OnSheet, Valid};
 ghost use Rattle.model.specs.Analysis.{timingWith, verdictWith, verdictOf};
-ghost use Rattle.wait.specs.InRange.{CycleAndBudget};
+ghost use Rattle.interference.specs.InRange.{CycleAndBudget};
 use crate::higher::higher_streams;
 use layout::budget_of;
 use layout::stream_of;

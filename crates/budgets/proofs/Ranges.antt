@@ -7,7 +7,7 @@ use Rattle.model.specs.Limits.{maxBudget}
 use Rattle.model.specs.Sheet.{nodes}
 use Rattle.model.proofs.Sheet.ValidSheet.{SheetFits}
 use Rattle.model.proofs.Sheet.NodeSums.{full-cycle-least, full-cycle-most}
-use Rattle.wait.specs.InRange.{maxCycle, CycleAndBudget}
+use Rattle.interference.specs.InRange.{maxCycle, CycleAndBudget}
 use Rattle.budgets.specs.Rounds.{budgetIn, rowSum, rowCycle}
 use Rattle.budgets.specs.Least.{OneToSixteen}
 

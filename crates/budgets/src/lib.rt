@@ -9,7 +9,7 @@ ghost use Rattle.model.specs.Limits.{maxNodes, maxBudget};
 ghost use Rattle.model.specs.Sheet.{nodes, Valid};
 ghost use Rattle.model.specs.Refusal.{success, _orElse_, firstOf};
 ghost use Rattle.model.specs.Answers.{nodeLateWith, bufferAfter};
-ghost use Rattle.wait.specs.InRange.{CycleAndBudget};
+ghost use Rattle.interference.specs.InRange.{CycleAndBudget};
 ghost use Rattle.budgets.specs.Rounds.{rowSum, rowCycle, lateWith, firstRow, raised, stuckRefusal, lastRow};
 ghost use Rattle.budgets.specs.Answer.{findAnswer, findBuffer};
 ghost use Rattle.budgets.specs.Least.{LeastBudgets};

@@ -21,9 +21,10 @@ use Rattle.model.proofs.Protocol.LongerBuffer.{front-served}
 use Rattle.model.proofs.Protocol.Idle.{Quiet, run-idle, silent-before}
 use Rattle.model.specs.Idle.{idleBus, silentTurns}
 use Rattle.queue.specs.Queue.{ValidNode, Arrived, BegunFrom, FirstUnbegun}
-use Rattle.bus.specs.Turns.{stateIn, NextEvent, Ahead}
-use Rattle.bus.specs.declared.turns.Position.{Position}
-use Rattle.bus.proofs.TurnSteps.{taken-few, clock-moves, next-valid, next-turns}
+use Rattle.turns.specs.Turns.{NextEvent}
+use Rattle.bus.specs.Run.{stateIn, Ahead}
+use Rattle.bus.specs.declared.run.Position.{Position}
+use Rattle.turns.proofs.TurnSteps.{taken-few, clock-moves, next-valid, next-turns}
 
 -- The run, which ends in this state, has come to this record and this buffer.
 pub record Running (s log : List ℕ) (horizon : ℕ) (end : State) (room₀ room : List ℕ) (bus : Bus) (from to : ℕ) : Type 0 where

@@ -1,2 +1,2 @@
 -- What the contracts of the bus cite beside document 01's definitions.
-pub mod Turns
+pub mod Run

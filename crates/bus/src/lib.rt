@@ -1,4 +1,4 @@
-// The bus: one turn, one step with the record by value, and the replay.
+// The bus: one step with the record by value, and the replay.
 ghost use mathlib.Core.Path.{_≡_};
 ghost use lib.ListN.{length};
 ghost use Rattle.model.specs.Demand.{WholeReplay};
@@ -9,19 +9,16 @@ use model::Answer;
 use model::Bus;
 use queue::arrived_by;
 use queue::next_unbegun;
-pub use turns::Header;
-pub use turns::Position;
-pub use turns::clear;
-pub use turns::header_of;
-pub use turns::move_on;
-pub use turns::next_bus;
-pub use turns::next_event;
-pub use turns::pass_idle;
-use turns::run_to;
-pub use turns::run_turn;
-pub use turns::start_at;
+pub use run::Position;
+pub use run::move_on;
+use run::run_to;
+pub use run::start_at;
+use turns::clear;
+use turns::header_of;
+use turns::next_bus;
+use turns::run_turn;
 
-mod turns; // turns.rt: one turn, and the run of turns to a horizon
+mod run; // run.rt: the run of turns to a horizon
 
 // What one step answers, and the bus record after it.
 pub struct Turned {

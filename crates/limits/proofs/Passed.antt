@@ -17,9 +17,9 @@ use Rattle.model.specs.Analysis.{streamOf, mostReleases, interference, higherSt
 use Rattle.model.proofs.Sheet.ValidSheet.{StreamFits, SheetFits}
 use Rattle.model.proofs.Analysis.Rank.{rank-total}
 use Rattle.model.proofs.Analysis.NodeStreams.{above-sum}
-use Rattle.wait.specs.Periods.{interferenceBy}
-use Rattle.wait.specs.InRange.{HigherRanges}
-use Rattle.wait.proofs.Periods.{by-each}
+use Rattle.interference.specs.Periods.{interferenceBy}
+use Rattle.interference.specs.InRange.{HigherRanges}
+use Rattle.interference.proofs.Periods.{by-each}
 use Rattle.limits.specs.Limits.{limitWord}
 use Rattle.limits.specs.Ranking.{rankedBefore, rankOrder, rankedPeriods, rankedJitters}
 

@@ -10,9 +10,9 @@ use Rattle.model.specs.Sheet.{totalStreams, Valid}
 use Rattle.model.specs.Protocol.{releases, serveTurn, nextBus, firstTurn, replayed}
 use Rattle.model.specs.Records.{recordsOf}
 use Rattle.queue.specs.Queue.{ValidNode, Rising, BegunFrom}
-use Rattle.bus.specs.declared.turns.Position.{Position}
+use Rattle.bus.specs.declared.run.Position.{Position}
 use Rattle.limits.specs.Limits.{LimitsOf}
-use Rattle.bus.specs.Turns.{Ahead}
+use Rattle.bus.specs.Run.{Ahead}
 use Rattle.recording.specs.Recording.{KnownStreams, UpToDate}
 use Rattle.recording.proofs.TurnRecords.{list-current, list-next}
 use Rattle.bus.proofs.RunSteps.{UnderWay, AfterTurn, under-way-start, under-way-turn, under-way-again, under-way-done}

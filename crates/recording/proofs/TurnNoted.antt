@@ -12,8 +12,8 @@ use Rattle.model.specs.Protocol.{releases, serve, serveTurn}
 use Rattle.model.specs.Records.{recordsOf}
 use Rattle.model.proofs.Sheet.ValidSheet.{valid-fits}
 use Rattle.queue.specs.Queue.{ValidNode, FirstUnbegun, Arrived}
-use Rattle.bus.specs.declared.turns.Header.{Header}
-use Rattle.bus.specs.Turns.{headerAs}
+use Rattle.turns.specs.declared.Header.{Header}
+use Rattle.turns.specs.Turns.{headerAs}
 use Rattle.records.specs.Noting.{notedFrom, CanBeNoted}
 use Rattle.limits.specs.Limits.{LimitsOf}
 use Rattle.recording.specs.Recording.{KnownStreams, UpToDate}

@@ -9,14 +9,14 @@ ghost use Rattle.model.specs.Protocol.{releases, serveTurn, replayed};
 ghost use Rattle.model.specs.Answers.{recordsAnswer, recordsBuffer, recordsList};
 ghost use Rattle.model.specs.Demand.{WholeReplay, NoneOver};
 ghost use Rattle.queue.specs.Queue.{ValidNode, Rising, Arrived, FirstUnbegun};
-ghost use Rattle.bus.specs.Turns.{headerAs};
+ghost use Rattle.turns.specs.Turns.{headerAs};
 ghost use Rattle.limits.specs.Limits.{LimitsOf};
 ghost use Rattle.recording.specs.Recording.{recordsRefusal, KnownStreams, listFor, UpToDate};
-use bus::Header;
 use model::Answer;
 use model::Bus;
 use model::StreamRecord;
 use range::refuse_if;
+use turns::Header;
 
 // The number of streams of a sheet.
 fn count_streams(sheet: &[u32]) -> usize
@@ -42,7 +42,7 @@ fn clear_begins(log: &[u32], room: &mut [u32])
     requires { ⌜ releases (now log) ≤ length (now room) ⌝ }
     ensures { λ _. ⌜ now (room .exit) ≡ replicate (releases (now (log .entry))) notBegun ++ drop (releases (now (log .entry))) (now (room .entry)) ⌝ }
 {
-    bus::clear(room, log.len() / 2);
+    turns::clear(room, log.len() / 2);
 }
 
 // The bus record's turn, as the plain replay runs it, and the stream records of the messages that it takes. After it the list is the one
@@ -66,7 +66,7 @@ fn run_turn_with_records(
     ensures begins { λ r. ⌜ now (room .exit) ≡ serveTurn (now (sheet .entry)) (now (log .entry)) bus (now (room .entry)) .begins ⌝ }
     ensures every_turn { λ r. ⌜ now (records .exit) ≡ listFor (now (sheet .entry)) (now (log .entry)) (now (room .exit)) (now (records .entry)) ⌝ }
 {
-    let taken = bus::run_turn(sheet, header, log, bus, from, to, found, room);
+    let taken = turns::run_turn(sheet, header, log, bus, from, to, found, room);
     let count = layout::wide(taken);
     records::note_messages(
         log,
@@ -98,7 +98,7 @@ fn run_to_with_records(
     ensures begins { λ r. ⌜ now (room .exit) ≡ replayed (now (sheet .entry)) (now (log .entry)) horizon .begins ++ drop (releases (now (log .entry))) (now (room .entry)) ⌝ }
     ensures records { λ r. ⌜ now (records .exit) ≡ listFor (now (sheet .entry)) (now (log .entry)) (now (room .exit)) (now (records .entry)) ⌝ }
 {
-    let header = bus::header_of(sheet);
+    let header = turns::header_of(sheet);
     let mut p = bus::start_at(sheet, header, log, horizon, &room[..]);
     while p.bus.tick < horizon {
         let bus = p.bus;

@@ -22,8 +22,8 @@ use Rattle.model.proofs.Protocol.RunWords.{words-done, words-fuel, words-next, 
 use Rattle.model.proofs.Protocol.TurnCount.{begun-most}
 use Rattle.model.proofs.Trace.TurnWords.{listed-count, listed-even}
 use Rattle.queue.specs.Queue.{ValidNode, Arrived, FirstUnbegun}
-use Rattle.bus.specs.Turns.{stateIn}
-use Rattle.bus.proofs.TurnSteps.{served-by}
+use Rattle.bus.specs.Run.{stateIn}
+use Rattle.turns.proofs.TurnSteps.{served-by}
 use Rattle.bus.proofs.RunSteps.{Running, passed-idle, running-from, running-on, running-passed}
 use Rattle.trace.specs.declared.Progress.{Progress}
 use Rattle.trace.specs.Progress.{NoneBefore}

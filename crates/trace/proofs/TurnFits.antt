@@ -12,7 +12,7 @@ use Rattle.model.specs.Trace.{begunBelow}
 use Rattle.model.proofs.Sheet.ValidSheet.{valid-fits}
 use Rattle.model.proofs.Protocol.TurnCount.{serve-counted, begun-most}
 use Rattle.queue.specs.Queue.{ValidNode}
-use Rattle.bus.proofs.TurnSteps.{few-sent, taken-few}
+use Rattle.turns.proofs.TurnSteps.{few-sent, taken-few}
 
 -- What holds of the number of messages that a turn takes, where so many have begun before it.
 pub record TurnFits (s log : List ℕ) (bus : Bus) (begins : List ℕ) (begun : ℕ) : Type 0 where

@@ -11,12 +11,12 @@ ghost use Rattle.model.specs.Sheet.{messageTicks, budget};
 ghost use Rattle.model.specs.Protocol.{releases, takenBy, serveTurn, nextBus, noneBegun, run};
 ghost use Rattle.model.specs.Trace.{beginWords, runWords, begunBelow};
 ghost use Rattle.queue.specs.Queue.{ValidNode, RisingFrom, Arrived, FirstUnbegun};
-ghost use Rattle.bus.specs.Turns.{headerAs, AllBelow};
+ghost use Rattle.turns.specs.Turns.{headerAs, AllBelow};
 ghost use Rattle.trace.specs.Progress.{NoneBefore};
-use bus::Header;
 use model::Bus;
 use queue::arrived_by;
 use queue::next_unbegun;
+use turns::Header;
 
 // How far a run has come: the record of its next turn; the first release that has not begun; a number of releases that has all those due
 // among it; and how many have begun.
@@ -74,7 +74,7 @@ impl Progress {
         ensures listed { λ r. ⌜ now (room .exit) ≡ replacedAt (now (room .entry)) (releaseWords * self .begun) (beginWords (messageTicks (now (sheet .entry))) (self .bus .tick) (now (numbers .entry)) (takenBy (now (sheet .entry)) (now (log .entry)) (self .bus .node) (self .bus .tick) (budget (now (sheet .entry)) (self .bus .node)) (now (begins .entry)))) ⌝ }
     {
         let bus = self.bus;
-        let taken = bus::run_turn(sheet, header, log, bus, self.from, self.to, found, begins);
+        let taken = turns::run_turn(sheet, header, log, bus, self.from, self.to, found, begins);
         let count = layout::wide(taken);
         list_begins(
             header.message,
@@ -85,7 +85,7 @@ impl Progress {
             2 * self.begun,
             room,
         );
-        let next = bus::next_bus(sheet, header, bus, taken);
+        let next = turns::next_bus(sheet, header, bus, taken);
         Progress {
             bus: next,
             from: self.from,
@@ -108,7 +108,7 @@ fn next_due(log: &[u32], begins: &[u32], horizon: u32, tick: u32, from: usize, t
     ensures range { λ r. ⌜ r ≤ horizon ⌝ }
     ensures quiet { λ r. ⌜ (tick < r → NoneBefore (now (log .entry)) (now (begins .entry)) r) ⌝ }
 {
-    let mut until = bus::next_event(log, horizon, tick, to);
+    let mut until = turns::next_event(log, horizon, tick, to);
     let mut i = from;
     while i < to {
         let due = log[2 * i];
@@ -143,7 +143,7 @@ pub fn run_log(
     ensures begun { λ r. ⌜ (releaseWords * r .begun ≡ length (runWords (now (sheet .entry)) (now (log .entry)) (now (numbers .entry)) horizon horizon (noneBegun (now (log .entry)) start))) × (r .begun ≤ releases (now (log .entry))) ⌝ }
     ensures listed { λ r. ⌜ now (room .exit) ≡ runWords (now (sheet .entry)) (now (log .entry)) (now (numbers .entry)) horizon horizon (noneBegun (now (log .entry)) start) ++ drop (releaseWords * r .begun) (now (room .entry)) ⌝ }
 {
-    let header = bus::header_of(sheet);
+    let header = turns::header_of(sheet);
     let count = log.len() / 2;
     let mut p = Progress {
         bus: start,
@@ -156,7 +156,7 @@ pub fn run_log(
         p.to = arrived_by(log, p.bus.tick, p.to);
         let until = next_due(log, &begins[..], horizon, p.bus.tick, p.from, p.to);
         if p.bus.tick < until {
-            let next = bus::pass_idle(sheet, header, p.bus, until);
+            let next = turns::pass_idle(sheet, header, p.bus, until);
             p.bus = next;
         } else {
             p = p.run_turn(sheet, header, log, numbers, found, begins, room);

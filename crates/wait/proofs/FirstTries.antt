@@ -13,9 +13,9 @@ use Rattle.model.specs.declared.Verdict.the-variants.{Late, Listed}
 use Rattle.model.specs.Analysis.{Suffices, waitFor, lateAt, triesWorth, verdict}
 use Rattle.model.proofs.Analysis.Wait.{in-time-worth}
 use Rattle.model.proofs.Analysis.Searching.{found, none-left}
-use Rattle.wait.specs.Periods.{interferenceBy}
-use Rattle.wait.specs.InRange.{Ranges, FoundJ}
-use Rattle.wait.specs.Jump.{NoneBelow}
+use Rattle.interference.specs.Periods.{interferenceBy}
+use Rattle.interference.specs.InRange.{Ranges, FoundJ}
+use Rattle.interference.specs.Jump.{NoneBelow}
 
 module _ (H : ℕ → ℕ) (t : Timing) where
   -- One cycle is the first number.

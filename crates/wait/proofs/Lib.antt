@@ -1,6 +1,4 @@
 -- Laws that the proofs of the search for J share, one subject a file, in the order in which they build on each other.
-pub mod Periods
-pub mod Split
 pub mod Tries
 pub mod WaitBounds
 pub mod FirstTries

@@ -8,7 +8,7 @@ use Rattle.model.specs.declared.Timing.{Timing}
 use Rattle.model.specs.Limits.{maxTime}
 use Rattle.model.specs.Analysis.{triesWorth}
 use Rattle.model.proofs.Analysis.Wait.{tries-cycles}
-use Rattle.wait.specs.InRange.{Ranges, StreamRanges}
+use Rattle.interference.specs.InRange.{Ranges, StreamRanges}
 
 module _ {t : Timing} {x : Stream} {tries : ℕ}
     (ranges : Ranges t)

@@ -8,9 +8,9 @@ use Rattle.model.specs.declared.Timing.{Timing}
 use Rattle.model.specs.Limits.{maxBudget, maxSlotTicks}
 use Rattle.model.specs.Analysis.{waitFor}
 use Rattle.model.proofs.Analysis.Wait.{place-exact}
-use Rattle.wait.specs.Periods.{interferenceBy}
-use Rattle.wait.specs.InRange.{Ranges, FoundJ}
-use Rattle.wait.proofs.Periods.{by-grows}
+use Rattle.interference.specs.Periods.{interferenceBy}
+use Rattle.interference.specs.InRange.{Ranges, FoundJ}
+use Rattle.interference.proofs.Periods.{by-grows}
 
 module _ {periods jitters : List ℕ} {t : Timing} {J h before : ℕ}
     (ranges : Ranges t)

@@ -3,20 +3,18 @@
 ghost use mathlib.Core.Path.{_≡_};
 ghost use Prim.Native.Nat.{_≤_};
 ghost use Rattle.model.specs.Analysis.{waitFor, verdict, triesWorth};
-ghost use Rattle.wait.specs.Periods.{interferenceBy};
-ghost use Rattle.wait.specs.InRange.{HigherRanges, Ranges, StreamRanges, FoundJ};
-ghost use Rattle.wait.specs.Jump.{NoneBelow};
+ghost use Rattle.interference.specs.Periods.{interferenceBy};
+ghost use Rattle.interference.specs.InRange.{HigherRanges, Ranges, StreamRanges, FoundJ};
+ghost use Rattle.interference.specs.Jump.{NoneBelow};
 use interference::interference_of;
+use interference::jump::ALL;
+use interference::jump::next_try;
+use interference::jump::reach_after;
 use interference::long;
-use jump::ALL;
-use jump::next_try;
-use jump::reach_after;
 use model::Stream;
 use model::Timing;
 use model::Verdict;
 
-mod interference; // interference.rt: what the streams above can release
-mod jump; // jump.rt: how far the search may jump
 pub mod near; // near.rt: the verdict where H is known for the first cycles
 
 // How many J are worth a try: the late test. The deadline runs from the event, a message is queued up to the stream's own jitter after

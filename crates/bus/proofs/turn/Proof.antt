@@ -4,7 +4,7 @@ use native.Mathlib.Omega.{arith}
 use borrow.Author.Needs.{needs}
 use lib.ListN.{length}
 use Rattle.model.specs.Answers.{stepRefusal}
-use Rattle.bus.proofs.TurnSteps.{taken-few}
+use Rattle.turns.proofs.TurnSteps.{taken-few}
 use Rattle.model.proofs.Answers.NotRefused.{StepAccepted, step-accepted}
 use Rattle.bus.proofs.AcceptedLog.{log-rises}
 use Rattle.bus.proofs.StepOutcome.{step-node, step-refused, step-served}

@@ -2,7 +2,7 @@
 use mathlib.Core.Path.{ap, _∙_}
 use borrow.Author.Needs.{needs}
 use Rattle.model.specs.Analysis.{verdict}
-use Rattle.wait.specs.Periods.{interferenceBy}
+use Rattle.interference.specs.Periods.{interferenceBy}
 use Rattle.limits.specs.Limits.{limitWord}
 use Rattle.limits.proofs.limit_above.Statement.{statement}
 use Rattle.limits.proofs.limit_above.Tie as tie

@@ -11,7 +11,7 @@ use Rattle.theory.proofs.Listing.{map-at}
 use Rattle.theory.proofs.Ordering.{ordered-has}
 use Rattle.model.specs.Sheet.{streamCount, period, jitter}
 use Rattle.model.proofs.Sheet.ValidSheet.{valid-fits}
-use Rattle.wait.specs.InRange.{Ranges}
+use Rattle.interference.specs.InRange.{Ranges}
 use Rattle.analysis.proofs.InRange.{own-shares, timing-ranges, stream-ranges}
 use Rattle.limits.specs.Ranking.{rankedBefore, rankOrder, Numbers}
 use Rattle.limits.proofs.Filled.{limitAt, Stored, stored-none, stored-more, stored-all}

@@ -59,24 +59,24 @@ use Rattle.model.proofs.Bus as B°
 use Rattle.model.proofs.Bus.Laws as B′
 use Rattle.model.proofs.StreamRecord as R°
 use Rattle.queue.specs.Queue.{ValidNode, Rising, Arrived, BegunFrom, FirstUnbegun}
-use Rattle.bus.specs.Turns.{headerAs}
-use Rattle.bus.specs.declared.turns.Header.{Header}
-use Rattle.bus.proofs.header_of as header-of
-use Rattle.bus.proofs.header_of.Met as header-of-thm
-use Rattle.bus.proofs.header_of.Symbol as header-of-def
-use Rattle.bus.proofs.header_of.Symbol.{name as #bus·header-of}
-use Rattle.bus.proofs.turns.Header as H°
-use Rattle.bus.proofs.turns.Header.Laws as H′
+use Rattle.turns.specs.Turns.{headerAs}
+use Rattle.turns.specs.declared.Header.{Header}
+use Rattle.turns.proofs.header_of as header-of
+use Rattle.turns.proofs.header_of.Met as header-of-thm
+use Rattle.turns.proofs.header_of.Symbol as header-of-def
+use Rattle.turns.proofs.header_of.Symbol.{name as #turns·header-of}
+use Rattle.turns.proofs.Header as H°
+use Rattle.turns.proofs.Header.Laws as H′
 use Rattle.limits.specs.Limits.{LimitsOf}
 use Rattle.recording.specs.Recording.{KnownStreams, UpToDate}
-use Rattle.bus.specs.declared.turns.Position.{Position}
+use Rattle.bus.specs.declared.run.Position.{Position}
 use Rattle.records.proofs.Elements.{told}
 use Rattle.records.proofs.Lending.{sliceAt, slice, OpenSlice, opens-list, closes-list, lends-row, row-back, lends-row-shared, row-back-shared}
 use Rattle.records.proofs.Locals.{env-of, stacked, frees-all, gets, field-of, lands-struct, lands-word, reborrows, decides, after}
 use Rattle.records.proofs.Walking.{shown, all-three, needs-three, heard-and, last-is, starts, asks, hears, ends, meets-by, has-word, has-struct}
 use Rattle.records.proofs.Walking.{twice}
-use Rattle.bus.proofs.turns.Position as P°
-use Rattle.bus.proofs.turns.Position.Laws as P′
+use Rattle.bus.proofs.run.Position as P°
+use Rattle.bus.proofs.run.Position.Laws as P′
 use Rattle.recording.proofs.RecordsRun.{Asked, Noted, NotedTurn, noted-start, turn-fits, turn-dated, move-from, move-in-time, noted-turn}
 use Rattle.recording.proofs.RecordsRun.{noted-again, noted-done}
 use Rattle.bus.proofs.move_on as move-on
@@ -378,7 +378,7 @@ module _ {M : Type 1} (𝓤 : URA M) (H : Heap 𝓤) (A : Atoms 𝓤) (W : Given
       (fits₅ : Room R°.the-row (length records₀)) where
     -- ---- the walk
     module _ (𝓣 : Tables 𝓤 H)
-        (known-header : Triple 𝓤 (𝓣 .C #bus·header-of) (HeaderOf 𝓤 H A mem′ run))
+        (known-header : Triple 𝓤 (𝓣 .C #turns·header-of) (HeaderOf 𝓤 H A mem′ run))
         (known-start : Triple 𝓤 (𝓣 .C #bus·start-at) (StartAt 𝓤 H A mem′ run))
         (known-turn : Triple 𝓤 (𝓣 .C #recording·run-turn) (RunTurn 𝓤 H A mem′ run))
         (known-move : Triple 𝓤 (𝓣 .C #bus·move-on) (MoveOn 𝓤 H A mem′ run))
@@ -642,7 +642,7 @@ module _ {M : Type 1} (𝓤 : URA M) (H : Heap 𝓤) (A : Atoms 𝓤) (W : Given
   )
 
   run-to-meets : (𝓣 : Tables 𝓤 H)
-      → Triple 𝓤 (𝓣 .C #bus·header-of) (HeaderOf 𝓤 H A mem′ run)
+      → Triple 𝓤 (𝓣 .C #turns·header-of) (HeaderOf 𝓤 H A mem′ run)
       → Triple 𝓤 (𝓣 .C #bus·start-at) (StartAt 𝓤 H A mem′ run)
       → Triple 𝓤 (𝓣 .C #recording·run-turn) (RunTurn 𝓤 H A mem′ run)
       → Triple 𝓤 (𝓣 .C #bus·move-on) (MoveOn 𝓤 H A mem′ run)
@@ -694,7 +694,7 @@ run-to-with-records-spec 𝓤 H 𝓜 𝓖 𝓡 =
     entered 𝓤 H (tripleOf 𝓤 H (𝓖 .A) run-to.signature (run-to.spec 𝓤 H (𝓖 .A) (𝓜 .mem) (𝓡 .run)))
     (tables 𝓤 H 𝓜 𝓡 code.env .C) (tables 𝓤 H 𝓜 𝓡 code.env .Λ) #recording·run-to code.function (code.unfolded 𝓤 H 𝓜 𝓡)
     (run-to-meets 𝓤 H (𝓖 .A) (givenOf 𝓤 H 𝓜 𝓖) (𝓜 .mem) (𝓡 .run) (tablesOf 𝓤 H 𝓜 (tables 𝓤 H 𝓜 𝓡 code.env))
-    (cited 𝓤 H (HeaderOf 𝓤 H (𝓖 .A) (𝓜 .mem) (𝓡 .run)) 𝓜 𝓡 code.env #bus·header-of header-of-def.routine code.calls-bus·header-of
+    (cited 𝓤 H (HeaderOf 𝓤 H (𝓖 .A) (𝓜 .mem) (𝓡 .run)) 𝓜 𝓡 code.env #turns·header-of header-of-def.routine code.calls-turns·header-of
     (header-of-thm.met 𝓤 H 𝓜 𝓖 𝓡))
     (cited 𝓤 H (StartAt 𝓤 H (𝓖 .A) (𝓜 .mem) (𝓡 .run)) 𝓜 𝓡 code.env #bus·start-at start-at-def.routine code.calls-bus·start-at
     (start-at-thm.met 𝓤 H 𝓜 𝓖 𝓡))

@@ -44,13 +44,13 @@ use Rattle.model.specs.Protocol.{Served, serveTurn}
 use Rattle.model.proofs.Bus as B°
 use Rattle.model.proofs.Bus.Laws as B′
 use Rattle.model.proofs.StreamRecord as R°
-use Rattle.bus.specs.declared.turns.Header.{Header}
-use Rattle.bus.proofs.turns.Header as H°
-use Rattle.bus.proofs.turns.Header.Laws as H′
-use Rattle.bus.proofs.run_turn as turn
-use Rattle.bus.proofs.run_turn.Met as turn-thm
-use Rattle.bus.proofs.run_turn.Symbol as turn-def
-use Rattle.bus.proofs.run_turn.Symbol.{name as #bus·run-turn}
+use Rattle.turns.specs.declared.Header.{Header}
+use Rattle.turns.proofs.Header as H°
+use Rattle.turns.proofs.Header.Laws as H′
+use Rattle.turns.proofs.run_turn as turn
+use Rattle.turns.proofs.run_turn.Met as turn-thm
+use Rattle.turns.proofs.run_turn.Symbol as turn-def
+use Rattle.turns.proofs.run_turn.Symbol.{name as #turns·run-turn}
 use Rattle.layout.proofs.wide as wide
 use Rattle.layout.proofs.wide.Met as wide-thm
 use Rattle.layout.proofs.wide.Symbol as wide-def
@@ -296,7 +296,7 @@ module _ {M : Type 1} (𝓤 : URA M) (H : Heap 𝓤) (A : Atoms 𝓤) (W : Given
         says-3 (sheet .now) header (log .now) bus first end (limits .now) ys (room .now) (records .now)
         a₁ a₂ a₃ r count (room₁ ls) (found₁ ls) e same
 
-  module _ (C : Calls 𝓤 H) (Λ : Loops 𝓤 H) (fm : FmC 𝓤 H (W .laws) C) (known₁ : Triple 𝓤 (C #bus·run-turn) (RunTurn 𝓤 H A mem′ run))
+  module _ (C : Calls 𝓤 H) (Λ : Loops 𝓤 H) (fm : FmC 𝓤 H (W .laws) C) (known₁ : Triple 𝓤 (C #turns·run-turn) (RunTurn 𝓤 H A mem′ run))
       (known₂ : Triple 𝓤 (C #layout·wide) (Wide 𝓤 H A mem′ run))
       (known₃ : Triple 𝓤 (C #records·note-messages) (Note 𝓤 H A mem′ run)) where
     walk : Is (ShrSlice (named 0) κ₀ u32) sheet (slice sheet ∷ []) → Is H°.the-row header (machH ∷ [])
@@ -416,7 +416,7 @@ module _ {M : Type 1} (𝓤 : URA M) (H : Heap 𝓤) (A : Atoms 𝓤) (W : Given
   )
 
   turned-meets : (𝓣 : Tables 𝓤 H)
-      → Triple 𝓤 (𝓣 .C #bus·run-turn) (RunTurn 𝓤 H A mem′ run)
+      → Triple 𝓤 (𝓣 .C #turns·run-turn) (RunTurn 𝓤 H A mem′ run)
       → Triple 𝓤 (𝓣 .C #layout·wide) (Wide 𝓤 H A mem′ run)
       → Triple 𝓤 (𝓣 .C #records·note-messages) (Note 𝓤 H A mem′ run)
       → Meets 𝓤 H A turned.signature (WpFn 𝓤 H (𝓣 .C) (𝓣 .Λ) code.function) (turned.spec 𝓤 H A mem′ run)
@@ -475,7 +475,7 @@ run-turn-with-records-spec 𝓤 H 𝓜 𝓖 𝓡 =
     entered 𝓤 H (tripleOf 𝓤 H (𝓖 .A) turned.signature (turned.spec 𝓤 H (𝓖 .A) (𝓜 .mem) (𝓡 .run)))
     (tables 𝓤 H 𝓜 𝓡 code.env .C) (tables 𝓤 H 𝓜 𝓡 code.env .Λ) #recording·run-turn-with-records code.function (code.unfolded 𝓤 H 𝓜 𝓡)
     (turned-meets 𝓤 H (𝓖 .A) (givenOf 𝓤 H 𝓜 𝓖) (𝓜 .mem) (𝓡 .run) (tablesOf 𝓤 H 𝓜 (tables 𝓤 H 𝓜 𝓡 code.env))
-    (cited 𝓤 H (RunTurn 𝓤 H (𝓖 .A) (𝓜 .mem) (𝓡 .run)) 𝓜 𝓡 code.env #bus·run-turn turn-def.routine code.calls-bus·run-turn (turn-thm.met 𝓤 H 𝓜 𝓖 𝓡))
+    (cited 𝓤 H (RunTurn 𝓤 H (𝓖 .A) (𝓜 .mem) (𝓡 .run)) 𝓜 𝓡 code.env #turns·run-turn turn-def.routine code.calls-turns·run-turn (turn-thm.met 𝓤 H 𝓜 𝓖 𝓡))
     (cited 𝓤 H (Wide 𝓤 H (𝓖 .A) (𝓜 .mem) (𝓡 .run)) 𝓜 𝓡 code.env #layout·wide wide-def.routine code.calls-layout·wide (wide-thm.met 𝓤 H 𝓜 𝓖 𝓡))
     (cited 𝓤 H (Note 𝓤 H (𝓖 .A) (𝓜 .mem) (𝓡 .run)) 𝓜 𝓡 code.env #records·note-messages note-def.routine code.calls-records·note-messages
     (note-thm.met 𝓤 H 𝓜 𝓖 𝓡)))

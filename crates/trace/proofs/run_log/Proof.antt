@@ -11,7 +11,7 @@ use Rattle.model.proofs.Sheet.ValidSheet.{valid-fits}
 use Rattle.model.proofs.Protocol.Idle.{silent-before}
 use Rattle.model.proofs.Protocol.TurnCount.{begun-most}
 use Rattle.queue.specs.Queue.{FirstUnbegun}
-use Rattle.bus.proofs.TurnSteps.{clock-moves}
+use Rattle.turns.proofs.TurnSteps.{clock-moves}
 use Rattle.bus.proofs.RunSteps.{moved-on, running-done}
 use Rattle.trace.specs.declared.Progress.{Progress}
 use Rattle.trace.proofs.Tracing.{Tracing, tracing-start, tracing-idle, tracing-turn, tracing-done}

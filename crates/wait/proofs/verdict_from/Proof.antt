@@ -7,9 +7,9 @@ use borrow.Author.Needs.{needs}
 use Rattle.model.specs.Limits.{maxBudget}
 use Rattle.model.specs.Analysis.{IsLeastJ}
 use Rattle.model.proofs.Analysis.Searching.{found, none-left}
-use Rattle.wait.specs.Periods.{interferenceBy}
-use Rattle.wait.specs.InRange.{Tried}
-use Rattle.wait.specs.Jump.{NoneBelow}
+use Rattle.interference.specs.Periods.{interferenceBy}
+use Rattle.interference.specs.InRange.{Tried}
+use Rattle.interference.specs.Jump.{NoneBelow}
 use Rattle.wait.proofs.Tries.{cycles-to, tries-to}
 use Rattle.wait.proofs.verdict_from.Statement.{statement}
 use Rattle.wait.proofs.verdict_from.Tie as tie

@@ -5,7 +5,7 @@ use mathlib.Core.Path.{_≡_, refl, ap, _∙_}
 use borrow.Author.Needs.{needs}
 use Rattle.model.specs.Protocol.{serveTurn}
 use Rattle.model.proofs.Sheet.ValidSheet.{valid-fits}
-use Rattle.bus.proofs.TurnSteps.{taken-below}
+use Rattle.turns.proofs.TurnSteps.{taken-below}
 use Rattle.trace.proofs.TurnFits.{TurnFits, turn-fits}
 use Rattle.trace.proofs.Progress.run_turn.Statement.{statement}
 use Rattle.trace.proofs.Progress.run_turn.Tie as tie

@@ -3,8 +3,8 @@ use native.Mathlib.Omega.{arith}
 use native.Mathlib.Nat.{le-refl}
 use mathlib.Core.Path.{sym, _∙_}
 use borrow.Author.Needs.{needs}
-use Rattle.wait.specs.Periods.{interferenceBy}
-use Rattle.wait.specs.InRange.{FoundJ}
+use Rattle.interference.specs.Periods.{interferenceBy}
+use Rattle.interference.specs.InRange.{FoundJ}
 use Rattle.wait.proofs.FirstTries.{none-below-one, late-near, found-first, listed-near, one-cycle}
 use Rattle.wait.proofs.near.verdict_near.Statement.{statement}
 use Rattle.wait.proofs.near.verdict_near.Tie as tie

@@ -1,0 +1,2 @@
+-- Laws that the proofs of the turns cite.
+pub mod TurnSteps
