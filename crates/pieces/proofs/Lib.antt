@@ -1,9 +1,8 @@
 -- Laws about a replay that is fed piece by piece. What the code writes: Opening and Opened, the log that a piece is run over with its release
--- numbers; Keeping, the places of those that still wait; RecordWords, a record's words. Then what a piece that is not refused was handed,
--- the log of all pieces, and one piece after another. Theorem says that the pieces joined give what the whole log gives, and Applied uses
--- it with numbers. Outcome and WordsOutcome: what a piece promises, refused and not.
+-- numbers; Keeping, the places of those that still wait. Then what a piece that is not refused was handed, the log of all pieces, and one
+-- piece after another. Theorem says that the pieces joined give what the whole log gives, and Applied uses it with numbers. Outcome: what a
+-- piece promises, refused and not.
 pub mod Opening
-pub mod RecordWords
 pub mod Taken
 pub mod Accepted
 pub mod OpenLog
@@ -14,4 +13,3 @@ pub mod Applied
 pub mod Keeping
 pub mod Opened
 pub mod Outcome
-pub mod WordsOutcome

@@ -1,3 +1,2 @@
--- What document 02, "Seven", says of a replay by pieces, and its record as a table of words.
+-- What document 02, "Seven", says of a replay by pieces.
 pub mod Pieces
-pub mod Words

@@ -17,11 +17,9 @@ use open::open_log;
 use open::open_numbers;
 use queue::next_unbegun;
 use trace::run_log;
-pub use words::resume_in;
 
 mod check; // check.rt: the refusals of a piece
 mod open; // open.rt: what a piece is run over
-mod words; // words.rt: the record as a table of words
 
 // What a replay that is run piece by piece hands on from one piece to the next (document 02, "Seven": the "replay's record"): the horizon
 // that it has come to, the bus record of the next turn, the number of releases so far, and the messages that wait, as many as `waiting`

@@ -8,7 +8,7 @@ ghost use Rattle.model.specs.Sheet.{totalStreams, sheetRefusal, OnSheet, Valid}
 ghost use Rattle.model.specs.Answers.{oneStreamAnswer, admitAnswer, admitBuffer, replayAnswer, replayBuffer, recordsAnswer, recordsBuffer, recordsList, stepAnswer, stepBus, stepBuffer};
 ghost use Rattle.model.specs.Demand.{Judged, AllJudged, WholeReplay, NoneOver};
 ghost use Rattle.pieces.specs.Pieces.{resumeAnswer, resumeBuffer};
-ghost use Rattle.pieces.specs.Words.{checkpointIn, resumeWords, ContinuesIn};
+ghost use Rattle.encoding.specs.Words.{checkpointIn, resumeWords, ContinuesIn};
 ghost use Rattle.budgets.specs.Answer.{findAnswer, findBuffer};
 ghost use Rattle.budgets.specs.Least.{LeastBudgets};
 ghost use Rattle.tables.specs.Tables.{lentTables};
@@ -125,7 +125,7 @@ pub extern "C" fn wistorvan_resume(
     ensures buffer { λ r. ⌜ now (room .exit) ≡ resumeBuffer (now (sheet .entry)) (checkpointIn (now (checkpoint .entry))) (now (piece .entry)) horizon (now (room .entry)) ⌝ }
     ensures whole { λ r. ⌜ ContinuesIn (now (sheet .entry)) (now (checkpoint .entry)) (now (piece .entry)) r (now (checkpoint .exit)) (now (room .exit)) ⌝ }
 {
-    pieces::resume_in(sheet, piece, horizon, checkpoint, room)
+    encoding::resume_in(sheet, piece, horizon, checkpoint, room)
 }
 
 // "Write the sheet": a sheet made from tables, in the buffer's first words; the words written and C. What it wrote reads back as the same

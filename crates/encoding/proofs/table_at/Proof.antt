@@ -4,9 +4,9 @@ use mathlib.Core.Path.{refl}
 use native.Mathlib.Omega.{arith}
 use borrow.Author.Needs.{needs}
 use Rattle.model.specs.Limits.{maxWaiting}
-use Rattle.pieces.proofs.RecordWords.{table-put}
-use Rattle.pieces.proofs.words.table_at.Statement.{statement}
-use Rattle.pieces.proofs.words.table_at.Tie as tie
+use Rattle.encoding.proofs.RecordWords.{table-put}
+use Rattle.encoding.proofs.table_at.Statement.{statement}
+use Rattle.encoding.proofs.table_at.Tie as tie
 
 add-put : tie.Need-add-put
 add-put c = search needs

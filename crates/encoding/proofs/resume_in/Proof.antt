@@ -1,9 +1,9 @@
 -- `pieces::words::resume_in` meets its contract: the record in the table is resumed, and a refusal leaves the table. Assumes nothing.
 use borrow.Author.Needs.{needs}
 use lib.ListN.{length}
-use Rattle.pieces.proofs.WordsOutcome.{table-kept, table-run}
-use Rattle.pieces.proofs.words.resume_in.Statement.{statement}
-use Rattle.pieces.proofs.words.resume_in.Tie as tie
+use Rattle.encoding.proofs.WordsOutcome.{table-kept, table-run}
+use Rattle.encoding.proofs.resume_in.Statement.{statement}
+use Rattle.encoding.proofs.resume_in.Tie as tie
 
 checkpoint-in-requires : tie.Need-checkpoint-in-requires
 checkpoint-in-requires c κs = search needs

@@ -8,8 +8,8 @@ use lib.Seq.{length-take-le, take-all, take-at, drop-at, drop-drop}
 use Rattle.theory.specs.Listing.{replacedAt, putFront}
 use Rattle.theory.proofs.Overwriting.{over-more, put-fits}
 use Rattle.model.specs.Limits.{maxWaiting}
 use Rattle.pieces.specs.declared.Checkpoint.{Checkpoint}
-use Rattle.pieces.specs.Words.{checkpointHeader, ticksPlace, streamsPlace, checkpointLength, checkpointIn, checkpointWords}
+use Rattle.encoding.specs.Words.{checkpointHeader, ticksPlace, streamsPlace, checkpointLength, checkpointIn, checkpointWords}
 
 -- The words of a table that are put over all places of another.
 pub table-put : (words old : List ℕ) (at many : ℕ) {table : List ℕ}

@@ -1,9 +1,9 @@
 -- `pieces::words::checkpoint_in` meets its contract: each field is read at its place. Assumes nothing.
 use mathlib.Core.Path.{refl}
 use borrow.Author.Needs.{needs}
-use Rattle.pieces.specs.Words.{checkpointIn}
-use Rattle.pieces.proofs.words.checkpoint_in.Statement.{statement}
-use Rattle.pieces.proofs.words.checkpoint_in.Tie as tie
+use Rattle.encoding.specs.Words.{checkpointIn}
+use Rattle.encoding.proofs.checkpoint_in.Statement.{statement}
+use Rattle.encoding.proofs.checkpoint_in.Tie as tie
 
 element-copy-out-t8 : tie.Need-element-copy-out-t8
 element-copy-out-t8 c = search needs

@@ -1,14 +1,14 @@
-// The record as a table of words, as a program of another language hands it in and gets it back.
+// The record of a replay by pieces as a table of words, as a program of another language hands it in and gets it back.
 ghost use mathlib.Core.Path.{_≡_};
 ghost use Prim.Native.Nat.{_+_, _≤_};
 ghost use lib.ListN.{length, take, drop};
 ghost use Rattle.theory.specs.Listing.{replacedAt};
 ghost use Rattle.model.specs.Limits.{maxWaiting};
 ghost use Rattle.pieces.specs.Pieces.{resumeAnswer, resumeBuffer};
-ghost use Rattle.pieces.specs.Words.{checkpointIn, checkpointWords, resumeWords, ContinuesIn};
-use crate::Checkpoint;
+ghost use Rattle.encoding.specs.Words.{checkpointIn, checkpointWords, resumeWords, ContinuesIn};
 use model::Answer;
 use model::Bus;
+use pieces::Checkpoint;
 
 // The table of all waiting places that starts at a place.
 fn table_at(words: &[u32], at: usize) -> [u32; 256]

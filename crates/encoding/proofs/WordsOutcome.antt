@@ -14,13 +14,13 @@ use Rattle.model.specs.Protocol.{releases, releaseTick, releaseStream, noneBegu
 use Rattle.model.proofs.Sheet.Refusals.{orElse-on, orElse-both}
 use Rattle.model.proofs.Protocol.Run.{run-length}
 use Rattle.model.specs.Trace.{unbegun}
 use Rattle.pieces.specs.declared.Checkpoint.{Checkpoint}
 use Rattle.pieces.specs.declared.Resumed.{Resumed}
 use Rattle.pieces.specs.Pieces.{openLog, openNumbers, inPlaces, pieceEnd, pieceCheckpoint, resumeRefusal, resumeAnswer, resumeCheckpoint, Continues}
-use Rattle.pieces.specs.Words.{checkpointIn, checkpointWords, resumeWords, ContinuesIn}
+use Rattle.encoding.specs.Words.{checkpointIn, checkpointWords, resumeWords, ContinuesIn}
 use Rattle.pieces.proofs.Taken.{piece-taken}
 use Rattle.pieces.proofs.Opened.{open-count}
-use Rattle.pieces.proofs.RecordWords.{record-kept}
+use Rattle.encoding.proofs.RecordWords.{record-kept}
 
 -- So many words in places fill them all.
 places-full : (f : ℕ → ℕ) (xs : List ℕ) → length xs ≤ maxWaiting → length (inPlaces (map f xs)) ≡ maxWaiting

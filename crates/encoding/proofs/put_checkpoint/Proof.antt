@@ -1,10 +1,10 @@
 -- `pieces::words::put_checkpoint` meets its contract: the four parts of the record's words take all places. Assumes nothing.
 use native.Mathlib.Omega.{arith}
 use borrow.Author.Needs.{needs}
 use Rattle.pieces.proofs.Opening.{places}
-use Rattle.pieces.proofs.RecordWords.{record-written}
-use Rattle.pieces.proofs.words.put_checkpoint.Statement.{statement}
-use Rattle.pieces.proofs.words.put_checkpoint.Tie as tie
+use Rattle.encoding.proofs.RecordWords.{record-written}
+use Rattle.encoding.proofs.put_checkpoint.Statement.{statement}
+use Rattle.encoding.proofs.put_checkpoint.Tie as tie
 
 slice-aggregate-put-at : tie.Need-slice-aggregate-put-at
 slice-aggregate-put-at c = search needs

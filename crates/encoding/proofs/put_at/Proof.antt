@@ -5,8 +5,8 @@ use native.Mathlib.Omega.{arith}
 use borrow.Author.Needs.{needs}
 use lib.ListN.{length, take, drop}
 use Rattle.theory.proofs.Overwriting.{over-lent, lent-length, put-fits}
-use Rattle.pieces.proofs.words.put_at.Statement.{statement}
-use Rattle.pieces.proofs.words.put_at.Tie as tie
+use Rattle.encoding.proofs.put_at.Statement.{statement}
+use Rattle.encoding.proofs.put_at.Tie as tie
 
 mul-put : tie.Need-mul-put
 mul-put c = search needs
