@@ -19,7 +19,7 @@ fn cycle_of(message: u32, slot: u32, counts: &[u32], budgets: &[u32]) -> u32
     ensures { λ r. ⌜ r ≡ cycleOf message slot (now (counts .entry)) (now (budgets .entry)) ⌝ }
 {
     let n = counts.len() as u32;
-    tables::sum_up_to(budgets, n) as u32 * message + n * slot
+    validation::sum_up_to(budgets, n) as u32 * message + n * slot
 }
 
 // The words that the sheet of n nodes takes.
@@ -27,7 +27,7 @@ fn sheet_words(counts: &[u32], n: u32) -> usize
     requires { ⌜ (n ≡ length (now counts)) × (sumOf (now counts) ≤ maxNodes * maxStreams) ⌝ }
     ensures { λ r. ⌜ r ≡ bodyAt n (sumOf (now (counts .entry))) ⌝ }
 {
-    layout::first_body_at(n) + layout::body_words(tables::sum_up_to(counts, n) as u32)
+    layout::first_body_at(n) + layout::body_words(validation::sum_up_to(counts, n) as u32)
 }
 
 // The words of the sheet in the buffer's first ones: header, contents rows, bodies.
@@ -67,7 +67,7 @@ pub fn write_sheet(
     ensures reads { λ r. ⌜ (r .number ≡ 0 → ReadsBack (lentTables «message_ticks» «slot_ticks» (now (counts .entry)) (now (budgets .entry)) (now (periods .entry)) (now (deadlines .entry)) (now (jitters .entry))) (r .second) (r .third) (now (room .exit))) ⌝ }
     ensures again { λ r. ⌜ WrittenAgain (lentTables «message_ticks» «slot_ticks» (now (counts .entry)) (now (budgets .entry)) (now (periods .entry)) (now (deadlines .entry)) (now (jitters .entry))) (now (room .entry)) r (now (room .exit)) ⌝ }
 {
-    let refusal = tables::check_tables(
+    let refusal = validation::check_tables(
         message_ticks,
         slot_ticks,
         counts,

@@ -10,7 +10,7 @@ ghost use Rattle.tables.specs.Tables.{nodeEntry, sumOf, countsBefore};
 ghost use Rattle.tables.specs.Writing.{rowOf, bodyOf};
 use layout::wide;
 use layout::word_at;
-use tables::node_entry;
+use validation::node_entry;
 
 // The contents rows of n nodes, after the header.
 pub fn write_rows(counts: &[u32], budgets: &[u32], n: u32, room: &mut [u32])

@@ -4,9 +4,9 @@ use mathlib.Core.Path.{_≡_, sym, _∙_}
 use native.Mathlib.Omega.{arith}
 use borrow.Author.Needs.{needs}
 use Rattle.theory.proofs.Sums.{sumTo-none, sumTo-more}
 use Rattle.tables.specs.Tables.{nodeEntry, sumUpTo}
-use Rattle.tables.proofs.sum_up_to.Statement.{statement}
-use Rattle.tables.proofs.sum_up_to.Tie as tie
+use Rattle.validation.proofs.sum_up_to.Statement.{statement}
+use Rattle.validation.proofs.sum_up_to.Tie as tie
 
 abbrev Inv-loop : tie.InvT-loop
 Inv-loop table k sum₀ i₀ sum i = (i ≤ k) × (sum ≡ sumUpTo table i) × (sum ≤ 4294967295 * i)

@@ -7,10 +7,10 @@ use Rattle.model.specs.Limits.{maxNodes}
 use Rattle.model.specs.Refusal.{refuse, refuseIf, outside}
 use Rattle.model.proofs.Sheet.Range.{within}
 use Rattle.model.proofs.Sheet.Refusals.{refused, passed, refuseIf-none}
 use Rattle.tables.specs.Writing.{contentsRefusal}
 use borrow.Author.Needs.{needs}
-use Rattle.tables.proofs.check_contents.Statement.{statement}
-use Rattle.tables.proofs.check_contents.Tie as tie
+use Rattle.validation.proofs.check_contents.Statement.{statement}
+use Rattle.validation.proofs.check_contents.Tie as tie
 
 -- a number of nodes that is not refused
 few : (n : ℕ) → refuseIf (outside 1 maxNodes n) (refuse 2 0 0) .number ≡ 0 → n ≤ maxNodes

@@ -2,12 +2,12 @@
 -- does not. Assumes nothing.
 use native.Mathlib.Omega.{arith}
 use Rattle.model.proofs.Sheet.Refusals.{refused, passed}
 use Rattle.tables.specs.Tables.{lentTables}
 use Rattle.tables.specs.Writing.{tablesRefusal}
 use Rattle.tables.proofs.Passing.{contents-fit}
 use borrow.Author.Needs.{needs}
-use Rattle.tables.proofs.check_tables.Statement.{statement}
-use Rattle.tables.proofs.check_tables.Tie as tie
+use Rattle.validation.proofs.check_tables.Statement.{statement}
+use Rattle.validation.proofs.check_tables.Tie as tie
 
 check-contents-requires : tie.Need-check-contents-requires
 check-contents-requires c κs = search needs

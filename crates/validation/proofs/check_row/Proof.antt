@@ -1,8 +1,8 @@
 -- `tables::check_row` meets its contract: the test is the definition's. Assumes nothing.
 use Rattle.tables.specs.Writing.{tableRowRefusal}
 use borrow.Author.Needs.{needs}
-use Rattle.tables.proofs.check_row.Statement.{statement}
-use Rattle.tables.proofs.check_row.Tie as tie
+use Rattle.validation.proofs.check_row.Statement.{statement}
+use Rattle.validation.proofs.check_row.Tie as tie
 
 node-entry-requires : tie.Need-node-entry-requires
 node-entry-requires c κs = search needs

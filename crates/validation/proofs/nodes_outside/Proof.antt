@@ -5,8 +5,8 @@ use borrow.Author.Tests.{le-ltb}
 use Rattle.model.specs.Limits.{maxNodes}
 use Rattle.model.specs.Refusal.{outside}
 use Rattle.model.proofs.Sheet.Range.{outside-low}
-use Rattle.tables.proofs.nodes_outside.Statement.{statement}
-use Rattle.tables.proofs.nodes_outside.Tie as tie
+use Rattle.validation.proofs.nodes_outside.Statement.{statement}
+use Rattle.validation.proofs.nodes_outside.Tie as tie
 
 returns : tie.Need-returns
 returns c = sym (outside-low 1 maxNodes (c .before .args .n) (c .if1 .taken))

@@ -2,10 +2,10 @@
 use Prim.Native.Nat.{pred, _+_}
 use mathlib.Core.Path.{_≡_}
 use native.Mathlib.Omega.{arith}
 use Rattle.tables.specs.Writing.{tableStreamRefusal}
 use borrow.Author.Needs.{needs}
-use Rattle.tables.proofs.check_stream.Statement.{statement}
-use Rattle.tables.proofs.check_stream.Tie as tie
+use Rattle.validation.proofs.check_stream.Statement.{statement}
+use Rattle.validation.proofs.check_stream.Tie as tie
 
 sub-wide : tie.Need-sub-wide
 sub-wide c = search needs

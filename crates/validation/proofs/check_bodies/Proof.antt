@@ -10,10 +10,10 @@ use Rattle.theory.proofs.Sums.{sumTo-none, sumTo-more}
 use Rattle.model.specs.declared.Answer.{Answer}
 use Rattle.model.specs.Refusal.{firstOf}
 use Rattle.model.proofs.Sheet.Refusals.{rest, rest-start, rest-on, rest-stop, rest-end}
 use Rattle.tables.specs.Tables.{nodeEntry, sumUpTo}
 use Rattle.tables.specs.Writing.{tableStreamRefusal, tableBodyRefusal}
-use Rattle.tables.proofs.check_bodies.Statement.{statement}
-use Rattle.tables.proofs.check_bodies.Tie as tie
+use Rattle.validation.proofs.check_bodies.Statement.{statement}
+use Rattle.validation.proofs.check_bodies.Tie as tie
 
 -- the streams of the next node, which those of the nodes passed come before
 next-body : (counts periods deadlines jitters : List ℕ) (i : ℕ) {before count : ℕ} {r : Answer}

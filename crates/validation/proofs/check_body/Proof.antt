@@ -4,9 +4,9 @@ use mathlib.Core.Path.{_≡_}
 use native.Mathlib.Omega.{arith}
 use Rattle.model.specs.Refusal.{firstOf}
 use Rattle.model.proofs.Sheet.Refusals.{rest, rest-start, rest-on, rest-stop, rest-end}
 use Rattle.tables.specs.Writing.{tableStreamRefusal}
-use Rattle.tables.proofs.check_body.Statement.{statement}
-use Rattle.tables.proofs.check_body.Tie as tie
+use Rattle.validation.proofs.check_body.Statement.{statement}
+use Rattle.validation.proofs.check_body.Tie as tie
 
 abbrev Inv-loop : tie.InvT-loop
 Inv-loop periods deadlines jitters before k count i₀ i = (i ≤ count) × (rest (tableStreamRefusal periods deadlines jitters before k) i count ≡ firstOf (tableStreamRefusal periods deadlines jitters before k) 1 count)

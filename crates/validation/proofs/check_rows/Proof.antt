@@ -5,9 +5,9 @@ use native.Mathlib.Omega.{arith}
 use borrow.Author.Needs.{needs}
 use Rattle.model.specs.Refusal.{firstOf}
 use Rattle.model.proofs.Sheet.Refusals.{rest, rest-start, rest-on, rest-stop, rest-end}
 use Rattle.tables.specs.Writing.{tableRowRefusal}
-use Rattle.tables.proofs.check_rows.Statement.{statement}
-use Rattle.tables.proofs.check_rows.Tie as tie
+use Rattle.validation.proofs.check_rows.Statement.{statement}
+use Rattle.validation.proofs.check_rows.Tie as tie
 
 abbrev Inv-loop : tie.InvT-loop
 Inv-loop counts budgets n i₀ i = (i ≤ n) × (rest (tableRowRefusal counts budgets) i n ≡ firstOf (tableRowRefusal counts budgets) 1 n)

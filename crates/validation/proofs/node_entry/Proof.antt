@@ -3,8 +3,8 @@ use Prim.Native.Nat.{pred}
 use mathlib.Core.Path.{_≡_}
 use native.Mathlib.Omega.{arith}
 use borrow.Author.Needs.{needs}
-use Rattle.tables.proofs.node_entry.Statement.{statement}
-use Rattle.tables.proofs.node_entry.Tie as tie
+use Rattle.validation.proofs.node_entry.Statement.{statement}
+use Rattle.validation.proofs.node_entry.Tie as tie
 
 word-at-requires : tie.Need-word-at-requires
 word-at-requires c κs = search needs

@@ -3,9 +3,9 @@ use mathlib.Core.Path.{sym, refl, ap}
 use mathlib.Core.Bool.{not}
 use borrow.Author.Tests.{eq-eqb, ne-eqb}
 use Rattle.theory.proofs.Tests.{or-first, or-second}
 use Rattle.tables.specs.Writing.{lengthsDiffer}
-use Rattle.tables.proofs.lengths_differ.Statement.{statement}
-use Rattle.tables.proofs.lengths_differ.Tie as tie
+use Rattle.validation.proofs.lengths_differ.Statement.{statement}
+use Rattle.validation.proofs.lengths_differ.Tie as tie
 
 returns : tie.Need-returns
 unfolding lengthsDiffer
