@@ -11,9 +11,9 @@ use borrow.Author.Tests.{eqb-true, eq-eqb, ne-eqb, not-false}
 use Rattle.model.specs.Refusal.{refuse, accepted, refuseIf, firstOf}
 use Rattle.model.specs.Sheet.{nodes}
 use Rattle.model.proofs.Sheet.Refusals.{first-none, first-all, refuseIf-so}
-use Rattle.budgets.specs.Rounds.{lateWith, hasLate}
+use Rattle.rounds.specs.Rounds.{lateWith, hasLate}
 use Rattle.budgets.specs.Row.{stuckAt}
-use Rattle.budgets.proofs.Under.{has-late}
+use Rattle.rounds.proofs.Under.{has-late}
 
 -- The nodes up to i are judged: one of them is late, or none.
 pub record JudgedTo (s row : List ℕ) (i : ℕ) (late : Bool) : Type 0 where

@@ -1,10 +1,4 @@
--- Laws about the rounds, in the order in which they build on each other.
-pub mod Rows
+-- Laws that the proofs of the search for budgets cite, in the order in which they build on each other.
 pub mod Ranges
-pub mod Under
 pub mod Judging
-pub mod Settling
 pub mod Running
-pub mod Least
-pub mod Promise
-pub mod Applied

@@ -8,8 +8,8 @@ use Rattle.model.specs.Sheet.{nodes}
 use Rattle.model.proofs.Sheet.ValidSheet.{SheetFits}
 use Rattle.model.proofs.Sheet.NodeSums.{full-cycle-least, full-cycle-most}
 use Rattle.interference.specs.InRange.{maxCycle, CycleAndBudget}
-use Rattle.budgets.specs.Rounds.{budgetIn, rowSum, rowCycle}
-use Rattle.budgets.specs.Least.{OneToSixteen}
+use Rattle.rounds.specs.Rounds.{budgetIn, rowSum, rowCycle}
+use Rattle.rounds.specs.Least.{OneToSixteen}
 
 module _ (s row : List ℕ) (fits : SheetFits s) (range : OneToSixteen s row) where
   -- The cycle of a row at most,

@@ -12,11 +12,11 @@ use Rattle.model.specs.declared.Answer.{Answer}
 use Rattle.model.specs.Limits.{maxNodes, maxBudget}
 use Rattle.model.specs.Refusal.{firstOf}
 use Rattle.model.specs.Sheet.{nodes}
-use Rattle.budgets.specs.Rounds.{budgetIn, rowSum, lateWith, firstRow, raisedBudget, raised, stuckRefusal, goesOn, rounds, maxRounds, lastRow}
+use Rattle.rounds.specs.Rounds.{budgetIn, rowSum, lateWith, firstRow, raisedBudget, raised, stuckRefusal, goesOn, rounds, maxRounds, lastRow}
 use Rattle.budgets.specs.Row.{Row, stuckAt}
-use Rattle.budgets.proofs.Rows.{row-sixteen, row-past}
+use Rattle.rounds.proofs.Rows.{row-sixteen, row-past}
 use Rattle.budgets.proofs.Judging.{stuck-named, stuck-unnamed}
-use Rattle.budgets.proofs.Settling.{raised-range, raised-more, first-range, first-enough}
+use Rattle.rounds.proofs.Settling.{raised-range, raised-more, first-range, first-enough}
 
 module _ (s row : List ℕ) where
   -- With no round left the row stays,

@@ -1,5 +1,2 @@
--- Request Five, "Find the budgets": the rounds, what is answered, and what holds of the row that is found.
-pub mod Rounds
-pub mod Answer
-pub mod Least
+-- What the contracts of the search for budgets cite beside the definitions of its rounds.
 pub mod Row

@@ -9,7 +9,7 @@ use Rattle.model.specs.declared.Answer.{Answer}
 use Rattle.model.specs.Limits.{maxNodes}
 use Rattle.model.specs.Refusal.{refuse, refuseIf}
 use Rattle.model.specs.Sheet.{word, nodes}
-use Rattle.budgets.specs.Least.{OneToSixteen}
+use Rattle.rounds.specs.Least.{OneToSixteen}
 
 -- Sixteen words, from 1 to 16 for the nodes of the sheet and 0 past them.
 pub record Row (s row : List ℕ) : Type 0 where

@@ -9,8 +9,8 @@ ghost use Rattle.model.specs.Answers.{oneStreamAnswer, admitAnswer, admitBuffer
 ghost use Rattle.model.specs.Demand.{Judged, AllJudged, WholeReplay, NoneOver};
 ghost use Rattle.pieces.specs.Pieces.{resumeAnswer, resumeBuffer};
 ghost use Rattle.encoding.specs.Words.{checkpointIn, resumeWords, ContinuesIn};
-ghost use Rattle.budgets.specs.Answer.{findAnswer, findBuffer};
-ghost use Rattle.budgets.specs.Least.{LeastBudgets};
+ghost use Rattle.rounds.specs.Answer.{findAnswer, findBuffer};
+ghost use Rattle.rounds.specs.Least.{LeastBudgets};
 ghost use Rattle.tables.specs.Tables.{lentTables};
 ghost use Rattle.tables.specs.Writing.{writeAnswer, writeBuffer, ReadsBack, WrittenAgain};
 use model::Answer;

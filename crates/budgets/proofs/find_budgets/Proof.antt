@@ -12,10 +12,10 @@ use Rattle.model.specs.Answers.{roomRefusal, bufferAfter}
 use Rattle.model.proofs.Sheet.Refusals.{refused, passed}
 use Rattle.model.proofs.Answers.NotRefused.{room-enough}
 use Rattle.model.proofs.Answers.Buffer.{buffer-kept}
-use Rattle.budgets.specs.Rounds.{lastRow}
-use Rattle.budgets.specs.Answer.{findAnswer, findBuffer}
-use Rattle.budgets.specs.Least.{LeastBudgets}
-use Rattle.budgets.proofs.Promise.{least-budgets}
+use Rattle.rounds.specs.Rounds.{lastRow}
+use Rattle.rounds.specs.Answer.{findAnswer, findBuffer}
+use Rattle.rounds.specs.Least.{LeastBudgets}
+use Rattle.rounds.proofs.Promise.{least-budgets}
 use Rattle.budgets.proofs.find_budgets.Statement.{statement}
 use Rattle.budgets.proofs.find_budgets.Tie as tie
 

@@ -5,8 +5,8 @@ use native.Mathlib.Omega.{arith}
 use borrow.Author.Needs.{needs}
 use Rattle.model.specs.Sheet.{nodes}
 use Rattle.model.proofs.Sheet.ValidSheet.{valid-fits}
-use Rattle.budgets.specs.Rounds.{firstRow}
-use Rattle.budgets.proofs.Rows.{Making, made-word, made-row, zero-word}
+use Rattle.rounds.specs.Rounds.{firstRow}
+use Rattle.rounds.proofs.Rows.{Making, made-word, made-row, zero-word}
 use Rattle.budgets.proofs.first_row.Statement.{statement}
 use Rattle.budgets.proofs.first_row.Tie as tie
 

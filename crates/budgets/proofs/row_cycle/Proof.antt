@@ -5,7 +5,7 @@ use native.Mathlib.Omega.{arith}
 use borrow.Author.Needs.{needs}
 use Rattle.model.specs.Sheet.{nodes, messageTicks, slotTicks}
 use Rattle.model.proofs.Sheet.ValidSheet.{valid-fits}
-use Rattle.budgets.specs.Rounds.{rowSum}
+use Rattle.rounds.specs.Rounds.{rowSum}
 use Rattle.budgets.proofs.Ranges.{row-cycle-most}
 use Rattle.budgets.proofs.row_cycle.Statement.{statement}
 use Rattle.budgets.proofs.row_cycle.Tie as tie

@@ -7,7 +7,7 @@ use Rattle.theory.specs.Sum.{sumTo}
 use Rattle.theory.proofs.Sums.{sumTo-none, sumTo-more}
 use Rattle.model.specs.Sheet.{word, nodes}
 use Rattle.model.proofs.Sheet.ValidSheet.{valid-fits}
-use Rattle.budgets.specs.Rounds.{budgetIn}
+use Rattle.rounds.specs.Rounds.{budgetIn}
 use Rattle.budgets.proofs.row_sum.Statement.{statement}
 use Rattle.budgets.proofs.row_sum.Tie as tie
 

@@ -14,8 +14,8 @@ use Rattle.model.specs.Sheet.{word, nodes}
 use Rattle.model.specs.Answers.{nodeLateWith}
 use Rattle.model.proofs.Sheet.Refusals.{rest, rest-start, rest-on, rest-stop, rest-end, refuseIf-not, refuseIf-so}
 use Rattle.model.proofs.Sheet.ValidSheet.{valid-fits}
-use Rattle.budgets.specs.Rounds.{budgetIn, hasLate, raisedBudget, raised, fullRefusal, stuckRefusal}
-use Rattle.budgets.proofs.Rows.{Making, made-word, made-row}
+use Rattle.rounds.specs.Rounds.{budgetIn, hasLate, raisedBudget, raised, fullRefusal, stuckRefusal}
+use Rattle.rounds.proofs.Rows.{Making, made-word, made-row}
 use Rattle.budgets.proofs.Ranges.{row-shares}
 use Rattle.budgets.proofs.Judging.{JudgedTo, judged-none, judged-next, judged-all, stuck-named, stuck-unnamed}
 use Rattle.budgets.proofs.run_round.Statement.{statement}

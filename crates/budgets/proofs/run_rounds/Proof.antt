@@ -12,8 +12,8 @@ use Rattle.theory.proofs.Tests.{and-reading}
 use Rattle.model.specs.Limits.{maxBudget}
 use Rattle.model.specs.Sheet.{nodes}
 use Rattle.model.proofs.Sheet.ValidSheet.{valid-fits}
-use Rattle.budgets.specs.Rounds.{rowSum, raised, goesOn}
-use Rattle.budgets.proofs.Settling.{raised-more}
+use Rattle.rounds.specs.Rounds.{rowSum, raised, goesOn}
+use Rattle.rounds.proofs.Settling.{raised-more}
 use Rattle.budgets.proofs.Running.{comes, Running, running-first, running-on, running-over, sum-most}
 use Rattle.budgets.proofs.run_rounds.Statement.{statement}
 use Rattle.budgets.proofs.run_rounds.Tie as tie

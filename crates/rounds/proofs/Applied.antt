@@ -14,10 +14,10 @@ use Rattle.model.specs.Sheet.{cycle, ticksOutside, countsOutside, timesOutside,
 use Rattle.model.specs.Analysis.{streamsFrom, outranks, above, mostReleases, interference, waitFor, search, verdict, verdictWith}
 use Rattle.model.specs.Answers.{roomRefusal, lateRefusal, nodeLateWith, bufferAfter, admitAnswer}
 use Rattle.model.specs.Bench.{sheetA, sheetJitter}
-use Rattle.budgets.specs.Rounds.{budgetIn, ownRow, Admits, firstRow, raised, fullRefusal, stuckRefusal, goesOn, rounds, lastRow}
-use Rattle.budgets.specs.Answer.{findAnswer, findBuffer}
-use Rattle.budgets.specs.Least.{OneToSixteen, LeastBudgets}
-use Rattle.budgets.proofs.Promise.{least-budgets, own-admits}
+use Rattle.rounds.specs.Rounds.{budgetIn, ownRow, Admits, firstRow, raised, fullRefusal, stuckRefusal, goesOn, rounds, lastRow}
+use Rattle.rounds.specs.Answer.{findAnswer, findBuffer}
+use Rattle.rounds.specs.Least.{OneToSixteen, LeastBudgets}
+use Rattle.rounds.proofs.Promise.{least-budgets, own-admits}
 
 -- "Sheet A".
 unfoldable pub A : List ℕ

@@ -7,7 +7,7 @@ use Rattle.model.specs.declared.Answer.{Answer}
 use Rattle.model.specs.Limits.{maxBudget}
 use Rattle.model.specs.Sheet.{nodes, budget, totalStreams}
 use Rattle.model.specs.Answers.{admitAnswer}
-use Rattle.budgets.specs.Rounds.{budgetIn, Admits}
+use Rattle.rounds.specs.Rounds.{budgetIn, Admits}
 
 -- A row has "budgets from 1 to 16" for the nodes of the sheet.
 abbrev pub OneToSixteen : List ℕ → List ℕ → Type 0

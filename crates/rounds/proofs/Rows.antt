@@ -17,8 +17,8 @@ use Rattle.theory.proofs.Sums.{sumTo-mono}
 use Rattle.theory.proofs.Listing.{values-length, values-at}
 use Rattle.model.specs.Limits.{maxNodes}
 use Rattle.model.specs.Sheet.{word, nodes, messageTicks}
-use Rattle.budgets.specs.Rounds.{budgetIn, rowSum, rowCycle, rowOf, hasLate, raisedBudget, raised}
-use Rattle.budgets.specs.Least.{AtMost}
+use Rattle.rounds.specs.Rounds.{budgetIn, rowSum, rowCycle, rowOf, hasLate, raisedBudget, raised}
+use Rattle.rounds.specs.Least.{AtMost}
 
 -- Every word of a row of zeros is 0, past its end too.
 pub zero-word : (n p : ℕ) → word (replicate n 0) p ≡ 0

@@ -14,11 +14,11 @@ use Rattle.model.specs.Refusal.{refuse, accepted, refuseIf, firstOf}
 use Rattle.model.specs.Sheet.{nodes}
 use Rattle.model.proofs.Sheet.Refusals.{first-found}
 use Rattle.model.proofs.Sheet.ValidSheet.{SheetFits}
-use Rattle.budgets.specs.Rounds.{budgetIn, rowCycle, lateWith, Admits, hasLate, firstRow, fullRefusal, stuckRefusal, goesOn, rounds, maxRounds, lastRow}
-use Rattle.budgets.specs.Least.{OneToSixteen, AtMost}
-use Rattle.budgets.proofs.Rows.{row-in}
-use Rattle.budgets.proofs.Under.{late-less, raised-under}
-use Rattle.budgets.proofs.Settling.{raised-range, first-range, first-enough, rounds-keep, settled}
+use Rattle.rounds.specs.Rounds.{budgetIn, rowCycle, lateWith, Admits, hasLate, firstRow, fullRefusal, stuckRefusal, goesOn, rounds, maxRounds, lastRow}
+use Rattle.rounds.specs.Least.{OneToSixteen, AtMost}
+use Rattle.rounds.proofs.Rows.{row-in}
+use Rattle.rounds.proofs.Under.{late-less, raised-under}
+use Rattle.rounds.proofs.Settling.{raised-range, first-range, first-enough, rounds-keep, settled}
 
 module _ (s : List ℕ) (fits : SheetFits s) where
   few : nodes s ≤ maxNodes

@@ -17,12 +17,12 @@ use Rattle.model.specs.Answers.{roomRefusal, nodeLateRefusal, nodeLateWith, adm
 use Rattle.model.proofs.Sheet.Refusals.{orElse-on, orElse-stop, orElse-both, orElse-none, refuseIf-not, first-none, first-all}
 use Rattle.model.proofs.Sheet.ValidSheet.{SheetFits, valid-fits}
 use Rattle.model.proofs.Answers.Buffer.{buffer-written}
-use Rattle.budgets.specs.Rounds.{budgetIn, rowSum, rowCycle, lateWith, Admits, firstRow, raisedBudget, raised, ownRow, stuckRefusal, maxRounds, lastRow}
-use Rattle.budgets.specs.Answer.{findAnswer, findBuffer}
-use Rattle.budgets.specs.Least.{OneToSixteen, LeastBudgets}
-use Rattle.budgets.proofs.Rows.{row-in, row-sixteen}
-use Rattle.budgets.proofs.Settling.{rounds-keep}
-use Rattle.budgets.proofs.Least.{last-range, last-under, last-admits, stuck-none, stuck-eleven}
+use Rattle.rounds.specs.Rounds.{budgetIn, rowSum, rowCycle, lateWith, Admits, firstRow, raisedBudget, raised, ownRow, stuckRefusal, maxRounds, lastRow}
+use Rattle.rounds.specs.Answer.{findAnswer, findBuffer}
+use Rattle.rounds.specs.Least.{OneToSixteen, LeastBudgets}
+use Rattle.rounds.proofs.Rows.{row-in, row-sixteen}
+use Rattle.rounds.proofs.Settling.{rounds-keep}
+use Rattle.rounds.proofs.Least.{last-range, last-under, last-admits, stuck-none, stuck-eleven}
 
 -- Two rows with the same budgets for the nodes of the sheet.
 abbrev Alike : List ℕ → List ℕ → List ℕ → Type 0

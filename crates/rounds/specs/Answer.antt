@@ -7,7 +7,7 @@ use Rattle.model.specs.Limits.{maxNodes}
 use Rattle.model.specs.Refusal.{success, _orElse_}
 use Rattle.model.specs.Sheet.{sheetRefusal}
 use Rattle.model.specs.Answers.{roomRefusal, bufferAfter}
-use Rattle.budgets.specs.Rounds.{rowSum, rowCycle, stuckRefusal, lastRow}
+use Rattle.rounds.specs.Rounds.{rowSum, rowCycle, stuckRefusal, lastRow}
 
 -- "the answer is the row's sum and its C. Refusals: 1 to 5, 6, then 11".
 unfoldable pub findAnswer : List ℕ → ℕ → Answer

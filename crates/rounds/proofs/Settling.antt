@@ -13,9 +13,9 @@ use Rattle.model.specs.Limits.{maxNodes, maxBudget}
 use Rattle.model.specs.Refusal.{refuse, firstOf}
 use Rattle.model.specs.Sheet.{nodes}
 use Rattle.model.proofs.Sheet.Refusals.{first-none, first-found, refuseIf-none}
-use Rattle.budgets.specs.Rounds.{budgetIn, rowSum, lateWith, hasLate, firstRow, raised, fullRefusal, stuckRefusal, goesOn, rounds, maxRounds}
-use Rattle.budgets.specs.Least.{OneToSixteen}
-use Rattle.budgets.proofs.Rows.{row-in, raised-in, raised-either}
+use Rattle.rounds.specs.Rounds.{budgetIn, rowSum, lateWith, hasLate, firstRow, raised, fullRefusal, stuckRefusal, goesOn, rounds, maxRounds}
+use Rattle.rounds.specs.Least.{OneToSixteen}
+use Rattle.rounds.proofs.Rows.{row-in, raised-in, raised-either}
 
 module _ (s : List ℕ) (few : nodes s ≤ maxNodes) where
   -- Where a round is to come, some stream is late and no late node has 16 already.

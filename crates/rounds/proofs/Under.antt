@@ -13,9 +13,9 @@ use Rattle.model.specs.Limits.{maxNodes}
 use Rattle.model.specs.Sheet.{nodes}
 use Rattle.model.proofs.Sheet.Refusals.{first-none}
 use Rattle.model.proofs.Answers.LongerLate.{node-late-longer}
-use Rattle.budgets.specs.Rounds.{budgetIn, rowCycle, lateWith, Admits, hasLate, raised}
-use Rattle.budgets.specs.Least.{AtMost}
-use Rattle.budgets.proofs.Rows.{raised-in, raised-either, cycle-under}
+use Rattle.rounds.specs.Rounds.{budgetIn, rowCycle, lateWith, Admits, hasLate, raised}
+use Rattle.rounds.specs.Least.{AtMost}
+use Rattle.rounds.proofs.Rows.{raised-in, raised-either, cycle-under}
 
 -- What it is to have a late stream.
 pub has-late : (s row : List ℕ) (k : ℕ) → hasLate s row k ≡ true → lateWith s row k .number ≡ 0 → ⊥
