@@ -8,7 +8,7 @@ wrong=0
 named=$(mktemp) || exit 1
 trap 'rm -f "$named"' EXIT
 
-grep -oE '(^|[ ;|(])(theory|model|cases|range|fill|tables|sheet|rank|wait|analysis|budgets|log|queue|bus|trace|limits|records|recording|places|pieces|writer|wistorvan|input|report|admit|replay)/[a-z0-9_]+(, [a-z0-9_]+)*' "$page" |
+grep -oE '(^|[ ;|(])(theory|model|cases|layout|range|fill|tables|validation|sheet|rank|interference|wait|analysis|rounds|budgets|log|queue|turns|bus|trace|limits|records|recording|places|pieces|encoding|writer|wistorvan|input|report|admit|replay)/[a-z0-9_]+(, [a-z0-9_]+)*' "$page" |
     while IFS=/ read -r crate edits; do
         for edit in ${edits//,/ }; do
             echo "${crate//[ ;|(]/}/$edit"
