@@ -4,32 +4,50 @@
 //! long as the plain one.
 
 use std::hint::black_box;
-use std::time::Instant;
+use std::time::{Duration, Instant};
 
 use crate::replay::{rows, Traffic};
 use crate::{median, RUNS};
 
 /// A short replay is run so many times, since once takes too short a time.
-const RELEASES_A_RUN: usize = 20_000;
+const RELEASES_A_RUN: usize = 5_000;
 
-/// The median times of the plain replay and of the one with records, in
-/// nanoseconds: a run of each by turns, so that both see the same minutes.
-fn by_turns(traffic: &Traffic, times: usize, room: &mut [u32]) -> (f64, f64) {
+/// The two are timed by turns, nine times at least and for at least so long.
+const LEAST_TIME: Duration = Duration::from_millis(500);
+
+/// What a row comes to: the median times of the plain replay and of the one with
+/// records, in nanoseconds, and the median of how they compare. A run of each makes
+/// a pair, so that both see the same moments of a machine that others use too.
+struct Compared {
+    plain: f64,
+    recorded: f64,
+    ratio: f64,
+}
+
+fn by_turns(traffic: &Traffic, times: usize, room: &mut [u32]) -> Compared {
     let (sheet, log, horizon) = (&traffic.sheet[..], &traffic.log[..], traffic.horizon);
     let mut list = [wistorvan::StreamRecord::default(); wistorvan::MAX_STREAMS];
-    let (mut plain, mut recorded) = (Vec::new(), Vec::new());
-    for _ in 0..RUNS {
-        plain.push(time(times, || {
+    let (mut plain, mut recorded, mut ratios) = (Vec::new(), Vec::new(), Vec::new());
+    let began = Instant::now();
+    while ratios.len() < RUNS || began.elapsed() < LEAST_TIME {
+        let without = time(times, || {
             let (sheet, log) = (black_box(sheet), black_box(log));
             black_box(wistorvan::raw::replay(sheet, log, horizon, room));
-        }));
-        recorded.push(time(times, || {
+        });
+        let with = time(times, || {
             let (sheet, log, list) = (black_box(sheet), black_box(log), black_box(&mut list));
             let answer = wistorvan::raw::replay_with_records(sheet, log, horizon, room, list);
             black_box(answer);
-        }));
+        });
+        plain.push(without);
+        recorded.push(with);
+        ratios.push(with / without);
     }
-    (middle(plain), middle(recorded))
+    Compared {
+        plain: middle(plain),
+        recorded: middle(recorded),
+        ratio: middle(ratios),
+    }
 }
 
 /// One of so many runs, in nanoseconds.
@@ -63,16 +81,19 @@ pub fn records() {
         let releases = traffic.log.len() / 2;
         let mut room = vec![0u32; releases];
         let times = (RELEASES_A_RUN / releases).max(1);
-        let (plain, proved) = by_turns(&traffic, times, &mut room);
+        let Compared {
+            plain,
+            recorded,
+            ratio,
+        } = by_turns(&traffic, times, &mut room);
         let second = by_second(&traffic, &mut room);
-        above += u32::from(proved > 1.3 * plain);
+        above += u32::from(ratio > 1.3);
         println!(
-            "{name}: plain {:.2} us, with records {:.2} us, ratio {:.2}; second program {:.2} us, second / proved {:.2}",
+            "{name}: plain {:.2} us, with records {:.2} us, ratio {ratio:.2}; second program {:.2} us, second / proved {:.2}",
             plain / 1e3,
-            proved / 1e3,
-            proved / plain,
+            recorded / 1e3,
             second / 1e3,
-            second / proved
+            second / recorded
         );
     }
     println!("rows above 1.3: {above}");
