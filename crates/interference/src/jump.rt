@@ -16,7 +16,7 @@ use model::Timing;
 const SCALE: u64 = 17_179_869_184;
 
 // Below so many cycles the plain jump is fast enough.
-const NEAR: u32 = 16;
+pub const NEAR: u32 = 16;
 
 // Past all numbers that are tried.
 const PAST_ALL: u64 = 4_294_967_296;
@@ -162,17 +162,5 @@ pub fn next_try(
         next as u32
     } else {
         last + 1
-    }
-}
-
-// How far to reach for the jump after this one: some times its length, or all, where the next is the first by a split. Nothing is
-// promised of it: a jump is sound with any reach.
-pub fn reach_after(cycles: u32, next: u32, cycle: u32) -> u32
-    requires { ⌜ (cycles ≤ next) × ((next - cycles) * cycle ≤ maxTime + 1) ⌝ }
-{
-    if cycles < NEAR {
-        ALL
-    } else {
-        4 * ((next - cycles) * cycle)
     }
 }

@@ -1,15 +1,16 @@
 // The listed wait by the least periods and jitters of the streams above and a node's timing: the search for J. Nothing here knows a
 // sheet.
 ghost use mathlib.Core.Path.{_≡_};
-ghost use Prim.Native.Nat.{_≤_};
+ghost use Prim.Native.Nat.{_+_, _-_, _*_, _≤_};
+ghost use Rattle.model.specs.Limits.{maxTime};
 ghost use Rattle.model.specs.Analysis.{waitFor, verdict, triesWorth};
 ghost use Rattle.interference.specs.Periods.{interferenceBy};
 ghost use Rattle.interference.specs.InRange.{HigherRanges, Ranges, StreamRanges, FoundJ};
 ghost use Rattle.interference.specs.Jump.{NoneBelow};
 use interference::interference_of;
 use interference::jump::ALL;
+use interference::jump::NEAR;
 use interference::jump::next_try;
-use interference::jump::reach_after;
 use interference::long;
 use model::Stream;
 use model::Timing;
@@ -39,6 +40,18 @@ fn wait_at(periods: &[u32], jitters: &[u32], h: u64, cycles: u32, timing: Timing
 {
     let place = h - long(cycles - 1) * long(timing.budget);
     cycles * timing.cycle - 1 + place as u32 * timing.message
+}
+
+// How far to reach for the jump after this one: some times its length, or all, where the next is the first by a split. Nothing is
+// promised of it: a jump is sound with any reach.
+fn reach_after(cycles: u32, next: u32, cycle: u32) -> u32
+    requires { ⌜ (cycles ≤ next) × ((next - cycles) * cycle ≤ maxTime + 1) ⌝ }
+{
+    if cycles < NEAR {
+        ALL
+    } else {
+        4 * ((next - cycles) * cycle)
+    }
 }
 
 // The search for J from a number on below which none suffices, as long as so many cycles are worth a try, and from each that does not suffice to the
