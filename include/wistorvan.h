@@ -35,7 +35,7 @@ extern "C" {
 #define WISTORVAN_FRESH_CHECKPOINT {0, 0, 1, 0, 0, 0, {0}, {0}, {0}}
 
 /* The first number of an answer, by name: success, or what is refused. Of all refusals that apply, the first in the order that
-   stands at each function is given. 13 to 15 are kept for later ones, so expect numbers that have no name here yet. */
+   stands at each function is given. 14 and 15 are kept for later ones, so expect numbers that have no name here yet. */
 enum wistorvan_number {
     /* Success. */
     WISTORVAN_OK = 0,
@@ -51,7 +51,7 @@ enum wistorvan_number {
        not have a word for each stream counted: place 0, 0. */
     WISTORVAN_BAD_CONTENTS = 4,
     /* A period is not 1 to 1,000,000,000, a deadline not 1 to its period or a jitter not less than its period, on the sheet or in
-       the tables (write_sheet), first in sheet order. Place: node, stream. */
+       the tables (write_sheet), first in sheet order, or in the new words (edit_stream). Place: node, stream. */
     WISTORVAN_BAD_STREAM = 5,
     /* The room is shorter than one word a stream (admit) or a release (replay, replay_records, step), than the sheet (write_sheet),
        than sixteen words, however few the nodes are (find_budgets), or than two words for each message that waits and each release
@@ -61,7 +61,7 @@ enum wistorvan_number {
        queuing at most (delivery is when its turn's protocol slot ends). The first in sheet order (admit) or the asked one
        (one_stream). Place: node, stream. */
     WISTORVAN_LATE = 7,
-    /* The sheet has no such stream (one_stream). Place: node, stream as asked. */
+    /* The sheet has no such stream (one_stream, edit_stream). Place: node, stream as asked. */
     WISTORVAN_NO_SUCH_STREAM = 8,
     /* The log, or a piece of it (resume). First, its length is odd, then, it has more than 4,096 releases, with those of all
        pieces before: place 0, 0. Then, the first release with a tick over 1,000,000,000, a tick below the one before, a tick
@@ -76,6 +76,8 @@ enum wistorvan_number {
     /* The messages that wait and the releases of the piece are more than 256 together, whatever could begin between (resume).
        Place: 0, 0. */
     WISTORVAN_TOO_MANY_WAITING = 12,
+    /* The stream is on the sheet, but not on the caller's own node (edit_stream). Place: node, stream as asked. */
+    WISTORVAN_NOT_OWN_NODE = 13,
     /* The tick or the turns of the bus or the checkpoint are over 1,000,000,000, or its node is not 1 to n; or the checkpoint has
        more than 256 waiting, more than 4,096 releases so far, or an unknown stream that waits. Place: 0, 0. */
     WISTORVAN_BAD_BUS = 16
@@ -167,6 +169,14 @@ struct wistorvan_answer wistorvan_write_sheet(uint32_t message_ticks, uint32_t s
                                               const uint32_t *deadlines, size_t deadlines_words,
                                               const uint32_t *jitters, size_t jitters_words,
                                               uint32_t *room, size_t room_words);
+
+/* Changes one stream of the caller's own node in place: its period, deadline and jitter on the sheet, and no other word; 0 0 0. The
+   sheet stays valid. Every stream of every other node has the wait and J that it had, or is late as it was: two valid sheets alike
+   in n, TMS, TPR, budgets and one node's streams get the same answers of one_stream on those streams, whatever the other nodes
+   have. Of admit's refusal 7 and of the budgets that find_budgets finds nothing is promised, since they read every stream. Refusals
+   1 to 5 of the sheet as it was, 8, 13, also where own_node is no node of the sheet, and then 5 of the new words. */
+struct wistorvan_answer wistorvan_edit_stream(uint32_t *sheet, size_t sheet_words, uint32_t own_node, uint32_t node,
+                                              uint32_t stream, uint32_t period, uint32_t deadline, uint32_t jitter);
 
 /* The smallest budgets with which no stream is late: their sum and the full cycle with them; the budgets, node by node and 0 past
    the last node, in the first sixteen words of the room. No node has less in any other budgets that work. The search starts with

@@ -2,15 +2,17 @@
 //! errors listed in document 01, go by a wrong rank, write a sheet wrongly,
 //! start a search at a wrong place, judge by a wrong late test, jump wrongly in
 //! the search for J, search wrongly for budgets, use the jitter wrongly, replay
-//! pieces wrongly, or record streams wrongly. Each of them has to differ
-//! somewhere.
+//! pieces wrongly, record streams wrongly, or edit a sheet wrongly. Each of them
+//! has to differ somewhere.
 
 use peer::broken;
-use peer::generate::{budgets_case, case, made_up_case, pieces_case, records_case, tables_case};
-use peer::generate::{BudgetsCase, Case, Piece, PiecesCase, RecordsCase, TablesCase};
+use peer::generate::{budgets_case, case, edits_case, made_up_case};
+use peer::generate::{pieces_case, records_case, tables_case};
+use peer::generate::{BudgetsCase, Case, EditsCase, Piece, PiecesCase, RecordsCase, TablesCase};
 use peer::Checkpoint;
 
 use crate::budgets::{found_by_proved, found_by_second, Find};
+use crate::edits::{edited_by_proved, edited_by_second, EditStream};
 use crate::pieces::{resumed_by_proved, resumed_by_second, Resume};
 use crate::records::{recorded_by_proved, recorded_by_second, Records};
 use crate::step::{stepped_by_proved, stepped_by_second, Step};
@@ -26,9 +28,10 @@ enum Entry {
     Find(Find),
     Resume(Resume),
     Records(Records),
+    Edit(EditStream),
 }
 
-const VARIANTS: [(&str, Entry); 84] = [
+const VARIANTS: [(&str, Entry); 102] = [
     (
         "1, releases counted by ceiling",
         Entry::Admit(broken::admit_by_ceiling),
@@ -365,6 +368,75 @@ const VARIANTS: [(&str, Entry); 84] = [
         "84, only the last turn's messages in the list",
         Entry::Records(broken::records_of_last_turn),
     ),
+    (
+        "85, a word of the next stream set",
+        Entry::Edit(broken::edit_the_next_too),
+    ),
+    (
+        "86, refusal 13 before refusal 8",
+        Entry::Edit(broken::edit_own_before_stream),
+    ),
+    (
+        "87, new words judged after they are set",
+        Entry::Edit(broken::edit_before_judging),
+    ),
+    (
+        "88, refusal 13 at the own node",
+        Entry::Edit(broken::edit_refused_at_own_node),
+    ),
+    (
+        "89, the jitter left as it was",
+        Entry::Edit(broken::edit_keeping_the_jitter),
+    ),
+    (
+        "90, old words not judged where new ones come",
+        Entry::Edit(broken::edit_setting_right),
+    ),
+    (
+        "91, a new deadline held to the old period",
+        Entry::Edit(broken::edit_by_the_old_period),
+    ),
+    (
+        "92, no refusal 13 where the own node is not there",
+        Entry::Edit(broken::edit_from_no_node),
+    ),
+    (
+        "93, refusal 13 before 8 where the own node is not there",
+        Entry::Edit(broken::edit_own_on_the_sheet),
+    ),
+    (
+        "94, refusal 5 for new words before refusal 13",
+        Entry::Edit(broken::edit_words_before_own),
+    ),
+    (
+        "95, refusal 5 for new words before refusal 8",
+        Entry::Edit(broken::edit_words_before_stream),
+    ),
+    (
+        "96, refusal 5 for old words after 8 and 13",
+        Entry::Edit(broken::edit_old_words_last),
+    ),
+    (
+        "97, the stream counted over the whole sheet",
+        Entry::Edit(broken::edit_by_running_number),
+    ),
+    (
+        "98, a new jitter as long as the period",
+        Entry::Edit(broken::edit_jitter_to_the_period),
+    ),
+    (
+        "99, refusal 7 for new words that are late",
+        Entry::Edit(broken::edit_in_time_only),
+    ),
+    (
+        "100, new period and deadline swapped",
+        Entry::Edit(broken::edit_words_swapped),
+    ),
+    (
+        "101, a success with the place",
+        Entry::Edit(broken::edit_answering_the_place),
+    ),
+    ("102, no refusal 13", Entry::Edit(broken::edit_any_node)),
 ];
 
 /// A case of each kind.
@@ -375,6 +447,7 @@ struct Cases {
     /// From a fresh record, and from a made-up one.
     pieces: [PiecesCase; 2],
     records: RecordsCase,
+    edits: EditsCase,
 }
 
 impl Cases {
@@ -385,6 +458,7 @@ impl Cases {
             budgets: budgets_case(seed, index),
             pieces: [pieces_case(seed, index), made_up_case(seed, index)],
             records: records_case(seed, index),
+            edits: edits_case(seed, index),
         }
     }
 }
@@ -421,6 +495,18 @@ fn resumed_otherwise(resume: Resume, resumed: &[Resumed]) -> Option<(Outcome, Ou
     })
 }
 
+/// The first edit on which a variant differs from what the library gives.
+fn edited_otherwise(
+    entry: EditStream,
+    case: &EditsCase,
+    given: &[Outcome],
+) -> Option<(Outcome, Outcome)> {
+    case.edits.iter().zip(given).find_map(|(edit, given)| {
+        let bad = edited_by_second(entry, &case.sheet, edit);
+        (*given != bad).then(|| (given.clone(), bad))
+    })
+}
+
 /// For each variant, what the library and the variant give if they differ.
 fn differences(cases: &Cases) -> [Option<(Outcome, Outcome)>; VARIANTS.len()] {
     let case = &cases.case;
@@ -435,6 +521,11 @@ fn differences(cases: &Cases) -> [Option<(Outcome, Outcome)>; VARIANTS.len()] {
     let find = found_by_proved(&cases.budgets);
     let records = recorded_by_proved(&cases.records);
     let resumed: Vec<Resumed> = cases.pieces.iter().flat_map(resumed).collect();
+    let edits = &cases.edits;
+    let edited = edits.edits.iter();
+    let edited: Vec<Outcome> = edited
+        .map(|edit| edited_by_proved(&edits.sheet, edit))
+        .collect();
     VARIANTS.each_ref().map(|(_, entry)| {
         let (good, bad) = match entry {
             Entry::Admit(entry) => (&admit, second(&case.room, |room| entry(sheet, room))),
@@ -447,6 +538,7 @@ fn differences(cases: &Cases) -> [Option<(Outcome, Outcome)>; VARIANTS.len()] {
             Entry::Find(entry) => (&find, found_by_second(*entry, &cases.budgets)),
             Entry::Records(entry) => (&records, recorded_by_second(*entry, &cases.records)),
             Entry::Resume(entry) => return resumed_otherwise(*entry, &resumed),
+            Entry::Edit(entry) => return edited_otherwise(*entry, edits, &edited),
         };
         (*good != bad).then(|| (good.clone(), bad))
     })
@@ -490,5 +582,6 @@ pub fn one(seed: u64, index: u64) -> bool {
     println!("and {:?}", cases.budgets);
     println!("and {:?}", cases.pieces);
     println!("and {:?}", cases.records);
+    println!("and {:?}", cases.edits);
     found.iter().any(Option::is_some)
 }

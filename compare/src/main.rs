@@ -4,6 +4,7 @@
 
 mod broken;
 mod budgets;
+mod edits;
 mod far;
 mod pieces;
 mod programs;
@@ -16,9 +17,13 @@ use std::io;
 use std::process::ExitCode;
 
 use budgets::compare_budgets;
-use peer::generate::{budgets_case, case, made_up_case, pieces_case, records_case, tables_case};
-use peer::generate::{named, named_budgets, named_pieces, named_records, named_tables};
-use peer::generate::{BudgetsCase, Case, PiecesCase, RecordsCase, TablesCase};
+use edits::{compare_alike, compare_edits};
+use peer::generate::{alike_case, budgets_case, case, edits_case};
+use peer::generate::{made_up_case, pieces_case, records_case, tables_case};
+use peer::generate::{named, named_alike, named_budgets, named_edits};
+use peer::generate::{named_pieces, named_records, named_tables};
+use peer::generate::{AlikeCase, BudgetsCase, Case, EditsCase};
+use peer::generate::{PiecesCase, RecordsCase, TablesCase};
 use peer::read_tables;
 use peer::stats::{
     event_names, found_names, jitter_names, kinds_of_jitters, late_name, sheet_fault,
@@ -27,7 +32,7 @@ use pieces::compare_pieces;
 use programs::{Programs, CHANGES};
 use records::compare_records;
 use step::{compare_step, compare_steps};
-use tally::{expected_pieces, expected_records, jitters, searches};
+use tally::{expected_edits, expected_pieces, expected_records, jitters, searches};
 use tally::{Outcome, Tally, EXPECTED, FAR};
 use writer::{compare_tables, compare_written_again};
 
@@ -39,6 +44,8 @@ const USAGE: &str =
        compare SEED INDEX named budgets (one of the named budgets again)
        compare SEED INDEX named pieces (one of the named replays by pieces again)
        compare SEED INDEX named records (one of the named replays with records again)
+       compare SEED INDEX named edits (one of the named edits again)
+       compare SEED INDEX named alike (one of the named pairs of sheets again)
        compare SEED COUNT broken (against the broken variants)
        compare SEED INDEX broken one (one case of each kind again, against those)
 ";
@@ -49,8 +56,8 @@ const PROGRAMS_EVERY: u64 = 100;
 const FAR_PROGRAMS: u64 = 400;
 
 /// So many generated cases must have all far numbers, all long searches, all
-/// kinds of rows, of jitters, of pieces and of lists among them; fewer may leave
-/// them to the named cases.
+/// kinds of rows, of jitters, of pieces, of lists and of edits among them; fewer
+/// may leave them to the named cases.
 const FAR_CASES: u64 = 5_000;
 
 /// Runs an entry of the second program on a copy of the room.
@@ -171,6 +178,8 @@ fn run_all(seed: u64, count: u64) -> io::Result<Tally> {
         compare_pieces(&mut tally, &name, &pieces_case(seed, index));
         compare_pieces(&mut tally, &name, &made_up_case(seed, index));
         compare_records(&mut tally, &name, &records_case(seed, index));
+        compare_edits(&mut tally, &name, &edits_case(seed, index));
+        compare_alike(&mut tally, &name, &alike_case(seed, index));
         if index % PROGRAMS_EVERY == 0 {
             let change = (index / PROGRAMS_EVERY) as usize % CHANGES.len();
             programs.compare(&mut tally, &name, &case, &CHANGES[change..=change])?;
@@ -186,6 +195,7 @@ fn run_all(seed: u64, count: u64) -> io::Result<Tally> {
         tally.expect(&jitters());
         tally.expect(&expected_pieces());
         tally.expect(&expected_records());
+        tally.expect(&expected_edits());
     }
     for (index, (name, case)) in named().iter().enumerate() {
         let name = format!("{name}: `compare {seed} {index} named`");
@@ -206,6 +216,14 @@ fn run_all(seed: u64, count: u64) -> io::Result<Tally> {
     for (index, (name, records)) in named_records().iter().enumerate() {
         let name = format!("{name}: `compare {seed} {index} named records`");
         compare_records(&mut tally, &name, records);
+    }
+    for (index, (name, edits)) in named_edits().iter().enumerate() {
+        let name = format!("{name}: `compare {seed} {index} named edits`");
+        compare_edits(&mut tally, &name, edits);
+    }
+    for (index, (name, alike)) in named_alike().iter().enumerate() {
+        let name = format!("{name}: `compare {seed} {index} named alike`");
+        compare_alike(&mut tally, &name, alike);
     }
     tally.expect(&FAR);
     tally.expect(&searches());
@@ -229,6 +247,8 @@ struct Again {
     pieces: Option<PiecesCase>,
     made_up: Option<PiecesCase>,
     records: Option<RecordsCase>,
+    edits: Option<EditsCase>,
+    alike: Option<AlikeCase>,
 }
 
 impl Again {
@@ -241,6 +261,8 @@ impl Again {
             pieces: Some(pieces_case(seed, index)),
             made_up: Some(made_up_case(seed, index)),
             records: Some(records_case(seed, index)),
+            edits: Some(edits_case(seed, index)),
+            alike: Some(alike_case(seed, index)),
         }
     }
 
@@ -253,6 +275,8 @@ impl Again {
             ["budgets"] => pick(named_budgets(), index, &mut again.budgets)?,
             ["pieces"] => pick(named_pieces(), index, &mut again.pieces)?,
             ["records"] => pick(named_records(), index, &mut again.records)?,
+            ["edits"] => pick(named_edits(), index, &mut again.edits)?,
+            ["alike"] => pick(named_alike(), index, &mut again.alike)?,
             _ => return None,
         };
         Some((name, again))
@@ -275,6 +299,12 @@ impl Again {
         }
         if let Some(records) = &self.records {
             compare_records(&mut tally, name, records);
+        }
+        if let Some(edits) = &self.edits {
+            compare_edits(&mut tally, name, edits);
+        }
+        if let Some(alike) = &self.alike {
+            compare_alike(&mut tally, name, alike);
         }
         Ok(tally.report())
     }

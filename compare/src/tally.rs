@@ -4,15 +4,18 @@ use std::collections::{BTreeMap, BTreeSet};
 use std::fmt::Debug;
 
 use peer::stats::LIST_NAMES;
+use peer::stats::{ALIKE_NAMES, MOVED_NAMES, NEW_WORDS_NAMES, NOT_OWN_NAMES};
 use peer::stats::{EVENT_NAMES, IN_TIME_NAMES, JITTER_FAULTS, JITTER_NAMES, TOO_LATE_NAMES};
 use peer::stats::{FOUND_NAMES, LATE_NAMES, NO_ROW_NAMES, ROW_NAMES};
 use peer::stats::{HORIZON_FAULTS, JOINED_NAMES, PIECE_FAULTS, PIECE_NAMES, RECORD_FAULTS};
+use peer::stats::{NO_STREAM_NAMES, OLD_WORDS_NAMES, SET_NAMES};
 
 use crate::far;
 
 /// An entry, the number it answered, and the kind of place, what was far, what
 /// the search for J or for budgets came to, what a jitter was or did, or what a
-/// piece, pieces joined, or a list of records had or came to.
+/// piece, pieces joined, a list of records, an edit or a pair of sheets had or came
+/// to.
 pub type Kind = (&'static str, u32, &'static str);
 
 /// The far numbers that a whole run must have met.
@@ -76,13 +79,29 @@ pub fn expected_records() -> Vec<Kind> {
     of("records", 0, &LIST_NAMES)
 }
 
+/// What a whole run must have met of edits: what one that is carried out may set or
+/// do, what may be wrong with stream, node and words, and how sheets alike may
+/// differ.
+pub fn expected_edits() -> Vec<Kind> {
+    [
+        of("edit", 0, &SET_NAMES),
+        of("edit", 0, &MOVED_NAMES),
+        of("edit", 5, &OLD_WORDS_NAMES),
+        of("edit", 5, &NEW_WORDS_NAMES),
+        of("edit", 8, &NO_STREAM_NAMES),
+        of("edit", 13, &NOT_OWN_NAMES),
+        of("sheets alike", 0, &ALIKE_NAMES),
+    ]
+    .concat()
+}
+
 fn of(entry: &'static str, number: u32, names: &[&'static str]) -> Vec<Kind> {
     let kinds = names.iter().map(|&name| (entry, number, name));
     kinds.collect()
 }
 
 /// The answers that a whole run must have met.
-pub const EXPECTED: [Kind; 108] = [
+pub const EXPECTED: [Kind; 125] = [
     ("sheet", 0, "success"),
     ("sheet", 1, "0 0"),
     ("sheet", 2, "0 0"),
@@ -170,6 +189,23 @@ pub const EXPECTED: [Kind; 108] = [
     ("records", 9, "0 and a number"),
     ("records", 10, "0 0"),
     ("records after a turn", 0, "success"),
+    ("edit", 0, "success"),
+    ("edit", 1, "0 0"),
+    ("edit", 2, "0 0"),
+    ("edit", 3, "0 0"),
+    ("edit", 4, "0 0"),
+    ("edit", 4, "node 0"),
+    ("edit", 5, "node stream"),
+    ("edit", 8, "0 0"),
+    ("edit", 8, "0 and a number"),
+    ("edit", 8, "node 0"),
+    ("edit", 8, "node stream"),
+    ("edit", 13, "node stream"),
+    ("sheet after an edit", 0, "success"),
+    ("other node after an edit", 0, "success"),
+    ("other node after an edit", 7, "node stream"),
+    ("sheets alike", 0, "success"),
+    ("sheets alike", 7, "node stream"),
     ("pieces joined", 0, "success"),
     ("pieces joined", 0, "a release begun in a later piece"),
     ("pieces joined", 0, "a release left waiting"),
@@ -218,6 +254,8 @@ pub struct Tally {
     budgets: u64,
     pieces: u64,
     records: u64,
+    edits: u64,
+    pairs: u64,
     differences: u64,
     answers: BTreeMap<Kind, u64>,
     missing: BTreeSet<Kind>,
@@ -242,6 +280,14 @@ impl Tally {
 
     pub fn new_records(&mut self) {
         self.records += 1;
+    }
+
+    pub fn new_edit(&mut self) {
+        self.edits += 1;
+    }
+
+    pub fn new_pair(&mut self) {
+        self.pairs += 1;
     }
 
     /// Counts one answer, and says where the two programs differ; answers whether
@@ -275,7 +321,8 @@ impl Tally {
     }
 
     /// Counts what is known by name of an answer with this number: what the
-    /// search behind it came to, what a jitter was or did, or what a piece had.
+    /// search behind it came to, what a jitter was or did, or what a piece or an
+    /// edit had.
     pub fn named(
         &mut self,
         entry: &'static str,
@@ -301,6 +348,8 @@ impl Tally {
         println!("budgets {}", self.budgets);
         println!("replays by pieces {}", self.pieces);
         println!("replays with records {}", self.records);
+        println!("edits {}", self.edits);
+        println!("pairs of sheets alike {}", self.pairs);
         for ((entry, number, place), times) in &self.answers {
             println!("{entry} {number} ({place}) {times}");
         }

@@ -1,13 +1,14 @@
 //! The five errors that document 01 has seen in fitters' sheets, three wrong
 //! ranks, eight wrong writers, two wrong starting places, four wrong late tests,
 //! five wrong jumps, ten wrong searches for budgets, thirteen wrong uses of the
-//! jitter, sixteen wrong replays by pieces and fifteen wrong lists of stream
-//! records, each made on purpose, so that a comparison can show that it catches
-//! them. All else is as in the good program, but for the search that the wrong
-//! jumps are made in.
+//! jitter, sixteen wrong replays by pieces, fifteen wrong lists of stream records
+//! and eighteen wrong edits, each made on purpose, so that a comparison can show
+//! that it catches them. All else is as in the good program, but for the search
+//! that the wrong jumps are made in.
 
 mod budgets;
 mod delivery;
+mod edits;
 mod jitter;
 mod jumps;
 mod pieces;
@@ -28,6 +29,13 @@ pub use budgets::{
 pub use delivery::{
     admit_delivering_at_own_end, admit_delivering_before_the_slot,
     admit_delivering_behind_own_place, admit_late_at_the_deadline,
+};
+pub use edits::{
+    edit_answering_the_place, edit_any_node, edit_before_judging, edit_by_running_number,
+    edit_by_the_old_period, edit_from_no_node, edit_in_time_only, edit_jitter_to_the_period,
+    edit_keeping_the_jitter, edit_old_words_last, edit_own_before_stream, edit_own_on_the_sheet,
+    edit_refused_at_own_node, edit_setting_right, edit_the_next_too, edit_words_before_own,
+    edit_words_before_stream, edit_words_swapped,
 };
 pub use jitter::{
     admit_late_without_jitter, admit_ranked_by_slack, admit_waiting_from_the_event,

@@ -1,13 +1,13 @@
 //! The independent second program: written from document 01 and, for the rank,
-//! the writer, the late test, the budgets, the jitter, the pieces and the stream
-//! records, requests One, Two and Four to Eight of document 02 alone, so that the
-//! proved program can be compared with it. It shares no code with that program,
-//! and keeps other accounts: running remainders in the search for J, one queue a
-//! stream in the replay, two heaps a node in the replay by pieces, a sheet put
-//! together apart from the room in the writer, budgets raised node by node,
-//! stream records counted once the replay is over. J is tried one by one from 1
-//! up, as far as the deadline allows: a search that leaves some out is measured
-//! against that.
+//! the writer, the late test, the budgets, the jitter, the pieces, the stream
+//! records and the edits, requests One, Two and Four to Nine of document 02 alone,
+//! so that the proved program can be compared with it. It shares no code with
+//! that program, and keeps other accounts: running remainders in the search for
+//! J, one queue a stream in the replay, two heaps a node in the replay by pieces,
+//! a sheet put together apart from the room in the writer, budgets raised node by
+//! node, stream records counted once the replay is over, an edited sheet written
+//! anew from its tables. J is tried one by one from 1 up, as far as the deadline
+//! allows: a search that leaves some out is measured against that.
 //!
 //! Every entry is total: whatever is handed in gets an answer, and a refusal
 //! changes no lent word.
@@ -15,6 +15,7 @@
 mod admission;
 pub mod broken;
 mod budgets;
+mod edits;
 pub mod events;
 pub mod generate;
 mod log;
@@ -29,6 +30,7 @@ mod writer;
 
 pub use admission::{admit, one_stream};
 pub use budgets::{find_budgets, find_budgets_by_rounds};
+pub use edits::{edit_stream, Edit};
 pub use pieces::{resume, Checkpoint, Lent, Place, CHECKPOINT_WORDS, MOST_WAITING};
 pub use records::{records_afresh, replay_with_records, StreamRecord};
 pub use replay::replay;

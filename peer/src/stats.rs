@@ -3,6 +3,7 @@
 
 mod budgets;
 mod edges;
+mod edits;
 mod jitter;
 mod pieces;
 mod rank;
@@ -22,6 +23,9 @@ use jitter::count_jitters;
 use search::{count_found, count_late};
 
 pub use budgets::{gather_budgets, no_row_names, round_count, row_names, NO_ROW_NAMES, ROW_NAMES};
+pub use edits::{alike_names, edit_names, gather_alike, gather_edits};
+pub use edits::{ALIKE_NAMES, MOVED_NAMES, NEW_WORDS_NAMES, NOT_OWN_NAMES};
+pub use edits::{NO_STREAM_NAMES, OLD_WORDS_NAMES, SET_NAMES};
 pub use jitter::{event_names, jitter_names, kinds_of_jitters};
 pub use jitter::{EVENT_NAMES, IN_TIME_NAMES, JITTER_NAMES, TOO_LATE_NAMES};
 pub use pieces::{gather_pieces, joined_names, Resumed};

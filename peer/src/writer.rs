@@ -133,7 +133,7 @@ impl Tables {
 
 impl<'a> Part<'a> {
     /// Period, deadline and jitter of each.
-    fn streams(&self) -> impl Iterator<Item = [u32; STREAM_WORDS]> + 'a {
+    pub(crate) fn streams(&self) -> impl Iterator<Item = [u32; STREAM_WORDS]> + 'a {
         let tables = self.periods.iter().zip(self.deadlines).zip(self.jitters);
         tables.map(|((&period, &deadline), &jitter)| [period, deadline, jitter])
     }

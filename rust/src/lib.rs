@@ -23,13 +23,14 @@
 //! Sheets and logs are tables of words, laid out as the repository's README
 //! says; [`write_sheet`] makes a sheet, so that nobody has to lay one out by
 //! hand, and [`find_budgets`] finds the smallest budgets with which no stream
-//! is late. [`replay_with_records`] counts for each stream what the replay has
-//! seen of it. A log that is still being written is replayed piece by piece with
-//! [`resume`]. Every function takes any tables: what is wrong with them comes back
-//! as a [`Refusal`] with a [`Reason`], a place and a sentence, and then no lent
-//! word has changed. Of all refusals that apply, the first in the order that
-//! stands at each function is given. [`raw`] has the same functions with the
-//! plain three numbers.
+//! is late. [`edit_stream`] changes a stream of one node in a sheet, and with it
+//! no wait of another node's streams. [`replay_with_records`] counts for each
+//! stream what the replay has seen of it. A log that is still being written is
+//! replayed piece by piece with [`resume`]. Every function takes any tables: what
+//! is wrong with them comes back as a [`Refusal`] with a [`Reason`], a place and
+//! a sentence, and then no lent word has changed. Of all refusals that apply, the
+//! first in the order that stands at each function is given. [`raw`] has the same
+//! functions with the plain three numbers.
 //!
 //! # Linking
 //!
@@ -779,6 +780,56 @@ pub fn write_sheet<'r>(tables: &Tables<'_>, room: &'r mut [u32]) -> Result<Writt
         sheet: &room[..words as usize],
         cycle,
     })
+}
+
+/// Changes one stream of the caller's own node in place: its period, deadline
+/// and jitter in the sheet, and no other word. Nodes and the streams of a node
+/// count from 1. The sheet stays valid.
+///
+/// Every stream of every other node has the wait and J that it had, or is late as
+/// it was: two valid sheets alike in n, TMS, TPR, budgets and one node's streams
+/// get the same answers of [`one_stream`] on those streams, whatever the other
+/// nodes have. Of [`admit`]'s [`Reason::Late`] and of the budgets that
+/// [`find_budgets`] finds nothing is promised, since they read every stream.
+///
+/// # Errors
+///
+/// In this order: those of [`check_sheet`] for the sheet as it was,
+/// [`Reason::NoSuchStream`], [`Reason::NotOwnNode`], also where `own_node` is no
+/// node of the sheet, and then [`Reason::BadStream`] for the new words.
+///
+/// ```
+/// use wistorvan::{edit_stream, one_stream, Reason};
+///
+/// # fn main() -> Result<(), wistorvan::Refusal> {
+/// // Node 1 is ours. Its stream 1 comes more often from now on, so that its
+/// // stream 2 waits longer; the stream of node 2 waits as long as before.
+/// let mut sheet = [2, 5, 1, 9, 2, 1, 15, 1, 2, 40, 40, 0, 60, 60, 0, 30, 30, 0];
+/// let (own, other) = (one_stream(&sheet, 1, 2)?, one_stream(&sheet, 2, 1));
+/// let (own_node, period, deadline, jitter) = (1, 30, 29, 2);
+/// edit_stream(&mut sheet, own_node, 1, 1, period, deadline, jitter)?;
+/// assert_eq!(sheet[9..12], [30, 29, 2]);
+/// assert_eq!((own.wait, one_stream(&sheet, 1, 2)?.wait), (33, 50));
+/// assert_eq!(one_stream(&sheet, 2, 1), other);
+///
+/// // A stream of another node is not changed.
+/// let refusal = edit_stream(&mut sheet, own_node, 2, 1, 40, 40, 0).unwrap_err();
+/// assert_eq!((refusal.reason(), refusal.place()), (Reason::NotOwnNode, (2, 1)));
+/// # Ok(())
+/// # }
+/// ```
+pub fn edit_stream(
+    sheet: &mut [u32],
+    own_node: u32,
+    node: u32,
+    stream: u32,
+    period: u32,
+    deadline: u32,
+    jitter: u32,
+) -> Result<(), Refusal> {
+    raw::edit_stream(sheet, own_node, node, stream, period, deadline, jitter)
+        .accepted()
+        .map(|_| ())
 }
 
 /// Finds the smallest budgets with which no stream of a sheet is late: no node

@@ -114,6 +114,16 @@ mod linked {
             room: *mut u32,
             room_words: usize,
         ) -> Answer;
+        pub fn wistorvan_edit_stream(
+            sheet: *mut u32,
+            sheet_words: usize,
+            own_node: u32,
+            node: u32,
+            stream: u32,
+            period: u32,
+            deadline: u32,
+            jitter: u32,
+        ) -> Answer;
         pub fn wistorvan_find_budgets(
             sheet: *const u32,
             sheet_words: usize,
@@ -124,8 +134,8 @@ mod linked {
 }
 
 // SAFETY, of every call below: each pointer goes with the length of its own
-// slice; what is only read is lent as const; a room, a list and a record are lent
-// for writing and to nobody else meanwhile.
+// slice; what is only read is lent as const; a room, a list, a record and a sheet
+// that is edited are lent for writing and to nobody else meanwhile.
 
 /// [`crate::check_sheet`]: 0 0 0 for a valid sheet.
 ///
@@ -318,6 +328,39 @@ pub fn write_sheet(tables: &Tables<'_>, room: &mut [u32]) -> Answer {
             tables.jitters.len(),
             room.as_mut_ptr(),
             room.len(),
+        )
+    }
+}
+
+/// [`crate::edit_stream`]: 0 0 0; the three words of the stream are set in the
+/// sheet.
+///
+/// ```
+/// let mut sheet = [1, 5, 1, 6, 1, 1, 20, 20, 0];
+/// let answer = wistorvan::raw::edit_stream(&mut sheet, 1, 1, 1, 30, 25, 2);
+/// assert_eq!((answer.number, answer.second, answer.third), (0, 0, 0));
+/// assert_eq!(sheet, [1, 5, 1, 6, 1, 1, 30, 25, 2]);
+/// ```
+#[must_use]
+pub fn edit_stream(
+    sheet: &mut [u32],
+    own_node: u32,
+    node: u32,
+    stream: u32,
+    period: u32,
+    deadline: u32,
+    jitter: u32,
+) -> Answer {
+    unsafe {
+        linked::wistorvan_edit_stream(
+            sheet.as_mut_ptr(),
+            sheet.len(),
+            own_node,
+            node,
+            stream,
+            period,
+            deadline,
+            jitter,
         )
     }
 }

@@ -5,7 +5,7 @@ use std::fmt;
 
 /// What is refused. The names are those of the header for C.
 ///
-/// Later versions will name more numbers (13 to 15 are kept for them), so a
+/// Later versions will name more numbers (14 and 15 are kept for them), so a
 /// `match` needs an arm for the rest.
 ///
 /// ```
@@ -39,7 +39,8 @@ pub enum Reason {
     BadContents,
     /// 5: a period is not 1 to 1,000,000,000, a deadline not 1 to its period or
     /// a jitter not less than its period, on the sheet or in the tables (write
-    /// sheet), first in sheet order. Place node, stream.
+    /// sheet), first in sheet order, or in the new words (edit stream). Place
+    /// node, stream.
     BadStream,
     /// 6: the room is shorter than one word a stream (admit) or a release
     /// (replay, replay with records, step), than the sheet (write sheet), than
@@ -53,7 +54,8 @@ pub enum Reason {
     /// most (delivery is when its turn's protocol slot ends). The first in
     /// sheet order (admit) or the asked one (one stream). Place node, stream.
     Late,
-    /// 8: the sheet has no such stream. Place node, stream as asked.
+    /// 8: the sheet has no such stream (one stream, edit stream). Place node,
+    /// stream as asked.
     NoSuchStream,
     /// 9: the log, or a piece of it (resume). First, its length is odd, then, it
     /// has more than 4,096 releases, with those of all pieces before: place
@@ -72,6 +74,9 @@ pub enum Reason {
     /// 12: the messages that wait and the releases of the piece are more than
     /// 256 together, whatever could begin between (resume). Place 0, 0.
     TooManyWaiting,
+    /// 13: the stream is on the sheet, but not on the caller's own node (edit
+    /// stream). Place node, stream as asked.
+    NotOwnNode,
     /// 16: the tick or the turns of the bus or the checkpoint are over
     /// 1,000,000,000, or its node is not 1 to n; or the checkpoint has more than
     /// 256 waiting, more than 4,096 releases so far, or an unknown stream that
@@ -83,8 +88,8 @@ pub enum Reason {
 
 /// A refusal: its number, its place, and as text a sentence that has both.
 ///
-/// Nothing is changed by an entry that refuses: no word of a room and no
-/// field of a stream record, a bus record or a checkpoint.
+/// Nothing is changed by an entry that refuses: no word of a room or a sheet
+/// and no field of a stream record, a bus record or a checkpoint.
 ///
 /// ```
 /// use wistorvan::{admit, Reason};
@@ -108,7 +113,7 @@ impl Refusal {
         Refusal { number, place }
     }
 
-    /// The number: 1 to 12 or 16, or one that a later library has.
+    /// The number: 1 to 13 or 16, or one that a later library has.
     ///
     /// ```
     /// assert_eq!(wistorvan::check_sheet(&[]).unwrap_err().number(), 1);
@@ -152,6 +157,7 @@ impl Refusal {
             10 => Reason::HorizonTooLarge,
             11 => Reason::NoBudgets,
             12 => Reason::TooManyWaiting,
+            13 => Reason::NotOwnNode,
             16 => Reason::BadBus,
             _ => Reason::Unnamed,
         }
@@ -191,6 +197,7 @@ impl Refusal {
             Reason::TooManyWaiting => {
                 write!(f, "the waiting and the piece's releases are more than 256")
             }
+            Reason::NotOwnNode => write!(f, "stream {b} of node {a} is not on the own node"),
             Reason::BadBus => write!(
                 f,
                 "the record's tick, node, turns, releases or waiting are out of range"
@@ -248,18 +255,18 @@ mod tests {
             .filter(|(reason, _)| *reason != Reason::Unnamed)
             .map(|(reason, number)| (name_in_c(reason), number))
             .collect();
-        assert_eq!(named.len(), 13);
+        assert_eq!(named.len(), 14);
         assert_eq!(named, named_in_header());
     }
 
     #[test]
     fn a_number_without_a_name_is_still_told() {
-        let later = Refusal::new(13, (3, 4));
-        assert_eq!((later.number(), later.place()), (13, (3, 4)));
+        let later = Refusal::new(14, (3, 4));
+        assert_eq!((later.number(), later.place()), (14, (3, 4)));
         assert_eq!(later.reason(), Reason::Unnamed);
         assert_eq!(
             later.to_string(),
-            "refused 13 at 3 4: this version has no name for the number"
+            "refused 14 at 3 4: this version has no name for the number"
         );
     }
 }

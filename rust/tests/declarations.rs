@@ -117,8 +117,8 @@ fn sorted(mut declarations: Vec<String>) -> Vec<String> {
 }
 
 #[test]
-fn nine_entries() {
-    assert_eq!(entries().len(), 9);
+fn ten_entries() {
+    assert_eq!(entries().len(), 10);
 }
 
 /// Six words and then three tables, in this order and with nothing between, as

@@ -3,9 +3,10 @@
 
 use std::error::Error;
 
-use wistorvan::{admit, check_sheet, find_budgets, one_stream, raw, replay, replay_with_records};
-use wistorvan::{resume, step, write_sheet, Budgets, Bus, Checkpoint, ListedWait, Reason, Refusal};
-use wistorvan::{Step, StreamRecord, Tables, Written};
+use wistorvan::{admit, check_sheet, edit_stream, find_budgets, one_stream, raw, replay};
+use wistorvan::{replay_with_records, resume, step, write_sheet};
+use wistorvan::{Budgets, Bus, Checkpoint, ListedWait, Reason, Refusal, Step, StreamRecord};
+use wistorvan::{Tables, Written};
 use wistorvan::{LONGEST_SHEET, MAX_NODES, MAX_RELEASES, MAX_STREAMS, NOT_BEGUN};
 
 const SHEET_A: [u32; 18] = [2, 5, 1, 9, 2, 1, 15, 1, 2, 40, 40, 0, 60, 60, 0, 30, 30, 0];
@@ -245,6 +246,8 @@ fn sheet_refusal(sheet: &[u32]) -> Refusal {
     assert_eq!(recorded, Err(refusal));
     assert_eq!(step(sheet, &[1], &mut bus, &mut []), Err(refusal));
     assert_eq!(find_budgets(sheet, &mut []), Err(refusal));
+    let edited = edit_stream(&mut sheet.to_vec(), 0, 0, 0, 0, 0, 0);
+    assert_eq!(edited, Err(refusal));
     let mut checkpoint = Checkpoint {
         node: 0,
         ..Checkpoint::fresh()

@@ -11,9 +11,9 @@ use Rattle.model.specs.Sheet.{sheetRefusal, Valid}
 use Rattle.model.specs.Answers.{listedWaits, bufferAfter, admitAnswer, admitBuffer}
 use Rattle.model.proofs.Sheet.Refusals.{orElse-both}
 use Rattle.model.proofs.Answers.Buffer.{buffer-written}
-use Rattle.report.specs.Text.{admitText}
-use Rattle.report.proofs.Answered.{admitted, not-admitted}
-use Rattle.report.proofs.Front.{waits-front}
+use Rattle.texts.specs.Text.{admitText}
+use Rattle.texts.proofs.Answered.{admitted, not-admitted}
+use Rattle.texts.proofs.Front.{waits-front}
 use Rattle.admit.specs.Output.{mostStreams, answerText}
 use Rattle.model.proofs.Answers.WaitWords.{listed-length}
 

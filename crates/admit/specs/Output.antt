@@ -4,7 +4,7 @@ use mathlib.Core.List.{List}
 use Rattle.model.specs.Limits.{maxNodes, maxStreams, longestSheet}
 use Rattle.model.specs.Answers.{listedWaits, admitAnswer}
 use Rattle.input.specs.Input.{loaded}
-use Rattle.report.specs.Text.{admitText}
+use Rattle.texts.specs.Text.{admitText}
 
 -- Words for the waits of the streams of any valid sheet.
 abbrev pub mostStreams : ℕ

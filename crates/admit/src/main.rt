@@ -5,7 +5,7 @@ ghost use lib.ListN.{length, take};
 ghost use Rattle.model.specs.Limits.{longestSheet};
 ghost use Rattle.io.specs.Counts.{Counts};
 ghost use Rattle.input.specs.Input.{readBytes};
-ghost use Rattle.report.specs.Longest.{longestAdmitText};
+ghost use Rattle.texts.specs.Longest.{longestAdmitText};
 ghost use Rattle.admit.specs.Output.{answerText, output};
 use input::SHEET_BYTES;
 use input::SHEET_WORDS;

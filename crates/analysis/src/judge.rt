@@ -5,13 +5,13 @@ ghost use lib.ListN.{length, take};
 ghost use Rattle.model.specs.Refusal.{success, _orElse_, firstOf};
 ghost use Rattle.model.specs.Sheet.{nodes, cycle as fullCycle, streamCount, totalStreams, Valid};
 ghost use Rattle.model.specs.Answers.{nodeLateRefusal, waitsFrom, listedWaits, bufferAfter};
-use crate::cycle::cycle_of;
-use crate::verdict::verdict_on;
 use layout::stream_count;
 use layout::wide;
 use layout::word_at;
 use model::Answer;
 use model::Verdict;
+use verdicts::cycle_of;
+use verdicts::verdict_on;
 
 // Refusal 7 of node k's streams, and their listed waits in the first words of `waits` where none is late.
 fn judge_node(sheet: &[u32], k: u32, cycle: u32, waits: &mut [u32]) -> Answer

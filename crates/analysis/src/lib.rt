@@ -1,38 +1,22 @@
 // The analysis: the listed wait of one stream, and the admission of a whole sheet.
 ghost use mathlib.Core.Path.{_≡_};
-ghost use mathlib.Core.Bool.{_||_};
 ghost use Prim.Native.Nat.{_≤_};
 ghost use lib.ListN.{length};
-ghost use Rattle.model.specs.Refusal.{outside};
-ghost use Rattle.model.specs.Sheet.{nodes, streamCount, totalStreams, OnSheet, Valid};
+ghost use Rattle.model.specs.Sheet.{totalStreams, OnSheet, Valid};
 ghost use Rattle.model.specs.Answers.{verdictAnswer, oneStreamAnswer, admitAnswer, admitBuffer};
 ghost use Rattle.model.specs.Demand.{Judged, AllJudged};
-pub use cycle::cycle_of;
+use asked::check_asked;
 use judge::judge_sheet;
-use layout::stream_count;
 use layout::streams_up_to;
 use layout::word_at;
 use model::Answer;
 use model::Verdict;
-use range::is_outside;
 use range::refuse_if;
 use sheet::check_sheet;
-use verdict::verdict_on;
+use verdicts::cycle_of;
+use verdicts::verdict_on;
 
-mod cycle; // cycle.rt: the full cycle
-mod higher; // higher.rt: who is ranked above a stream
-pub mod verdict; // verdict.rt: the verdict on one stream
 mod judge; // judge.rt: the verdicts on all streams
-
-// A node or a stream of it that the sheet has not.
-fn is_unknown(sheet: &[u32], k: u32, j: u32) -> bool
-    ensures { λ r. ⌜ r ≡ (outside 1 (nodes (now (sheet .entry))) k || outside 1 (streamCount (now (sheet .entry)) k) j) ⌝ }
-{
-    if is_outside(1, word_at(sheet, 0), k) {
-        return true;
-    }
-    is_outside(1, stream_count(sheet, k), j)
-}
 
 // The three numbers of a verdict.
 fn answer_of(k: u32, j: u32, verdict: Verdict) -> Answer
@@ -57,13 +41,9 @@ pub fn one_stream(sheet: &[u32], node: u32, stream: u32) -> Answer
     ensures answer { λ r. ⌜ r ≡ oneStreamAnswer (now (sheet .entry)) node stream ⌝ }
     ensures demand { λ r. ⌜ (Valid (now (sheet .entry)) → OnSheet (now (sheet .entry)) node stream → Judged (now (sheet .entry)) node stream r) ⌝ }
 {
-    let fault = check_sheet(sheet);
+    let fault = check_asked(sheet, node, stream);
     if fault.number != 0 {
         return fault;
-    }
-    let unknown = refuse_if(is_unknown(sheet, node, stream), 8, node, stream);
-    if unknown.number != 0 {
-        return unknown;
     }
     answer_of(
         node,

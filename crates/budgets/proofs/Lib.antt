@@ -1,4 +1,2 @@
--- Laws that the proofs of the search for budgets cite, in the order in which they build on each other.
-pub mod Ranges
-pub mod Judging
+-- Laws that the proofs of the search for budgets cite.
 pub mod Running

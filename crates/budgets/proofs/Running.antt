@@ -13,9 +13,9 @@ use Rattle.model.specs.Limits.{maxNodes, maxBudget}
 use Rattle.model.specs.Refusal.{firstOf}
 use Rattle.model.specs.Sheet.{nodes}
 use Rattle.rounds.specs.Rounds.{budgetIn, rowSum, lateWith, firstRow, raisedBudget, raised, stuckRefusal, goesOn, rounds, maxRounds, lastRow}
-use Rattle.budgets.specs.Row.{Row, stuckAt}
+use Rattle.rows.specs.Row.{Row, stuckAt}
 use Rattle.rounds.proofs.Rows.{row-sixteen, row-past}
-use Rattle.budgets.proofs.Judging.{stuck-named, stuck-unnamed}
+use Rattle.rows.proofs.Judging.{stuck-named, stuck-unnamed}
 use Rattle.rounds.proofs.Settling.{raised-range, raised-more, first-range, first-enough}
 
 module _ (s row : List ℕ) where

@@ -9,16 +9,11 @@ use model::Answer;
 use model::Bus;
 use queue::arrived_by;
 use queue::next_unbegun;
-pub use run::Position;
-pub use run::move_on;
-use run::run_to;
-pub use run::start_at;
+use runs::run_to;
 use turns::clear;
 use turns::header_of;
 use turns::next_bus;
 use turns::run_turn;
-
-mod run; // run.rt: the run of turns to a horizon
 
 // What one step answers, and the bus record after it.
 pub struct Turned {

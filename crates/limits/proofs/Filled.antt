@@ -15,7 +15,7 @@ use Rattle.model.specs.Sheet.{streamCount, streamsUpTo, totalStreams, inSheetOr
 use Rattle.model.specs.Analysis.{verdictOf}
 use Rattle.model.proofs.Sheet.SheetOrder.{upto-length, ordered-length, ordered-map}
 use Rattle.limits.specs.Limits.{limitWord, LimitsOf}
-use Rattle.limits.specs.Ranking.{Numbers}
+use Rattle.ranking.specs.Ranking.{Numbers}
 
 -- The limit of stream j of node k.
 abbrev pub limitAt : List ℕ → ℕ → ℕ → ℕ

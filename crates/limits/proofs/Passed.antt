@@ -21,7 +21,7 @@ use Rattle.interference.specs.Periods.{interferenceBy}
 use Rattle.interference.specs.InRange.{HigherRanges}
 use Rattle.interference.proofs.Periods.{by-each}
 use Rattle.limits.specs.Limits.{limitWord}
-use Rattle.limits.specs.Ranking.{rankedBefore, rankOrder, rankedPeriods, rankedJitters}
+use Rattle.ranking.specs.Ranking.{rankedBefore, rankOrder, rankedPeriods, rankedJitters}
 
 -- The most messages of stream j of node k in a window of w + 1 ticks.
 abbrev releasedIn : List ℕ → ℕ → ℕ → ℕ → ℕ

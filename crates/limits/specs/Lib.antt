@@ -1,3 +1,2 @@
 -- What the contracts of the limits cite beside document 01's definitions.
 pub mod Limits
-pub mod Ranking

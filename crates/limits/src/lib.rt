@@ -9,10 +9,9 @@ ghost use Rattle.model.specs.Limits.{maxStreams, maxTime};
 ghost use Rattle.model.specs.Analysis.{streamOf, mostReleases, verdict, timingOf, verdictOf};
 ghost use Rattle.interference.specs.Periods.{interferenceBy};
 ghost use Rattle.interference.specs.InRange.{maxCycle, HigherRanges, Ranges, StreamRanges};
-ghost use Rattle.analysis.specs.Body.{Body};
+ghost use Rattle.verdicts.specs.Body.{Body};
 ghost use Rattle.limits.specs.Limits.{limitWord, LimitsOf};
-ghost use Rattle.limits.specs.Ranking.{rankOrder, rankedPeriods, rankedJitters};
-use analysis::verdict::timing_with;
+ghost use Rattle.ranking.specs.Ranking.{rankOrder, rankedPeriods, rankedJitters};
 use layout::row_of;
 use layout::stream_count;
 use layout::wide;
@@ -22,10 +21,9 @@ use model::Verdict;
 use ranking::rank_streams;
 use ranking::stream_numbered;
 use ranking::times_of;
+use verdicts::timing_with;
 use wait::near::verdict_near;
 use wait::near::with_one_more;
-
-mod ranking; // ranking.rt: a node's streams in rank order
 
 // The number that stands for a verdict.
 fn limit_of(verdict: Verdict) -> u32
@@ -166,6 +164,6 @@ pub fn put_limits(sheet: &[u32], limits: &mut [u32])
     requires { ⌜ Valid (now sheet) × (totalStreams (now sheet) ≤ length (now limits)) ⌝ }
     ensures { λ _. ⌜ LimitsOf (now (sheet .entry)) (now (limits .exit)) ⌝ }
 {
-    let cycle = analysis::cycle_of(sheet);
+    let cycle = verdicts::cycle_of(sheet);
     list_nodes(sheet, word_at(sheet, 0), cycle, limits);
 }

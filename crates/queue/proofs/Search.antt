@@ -1,29 +1,28 @@
 -- The look of a turn at its node's queue: those found so far are the first ones of the releases that it has come past.
 -- Assumes nothing.
-use Prim.Native.Nat.{ℕ, suc, _+_, _-_, _≤_, _<_, zero-le}
+use Prim.Native.Nat.{ℕ, suc, _+_, _≤_, _<_, zero-le}
 use mathlib.Core.Path.{_≡_, refl, sym, ap, _∙_}
-use mathlib.Core.Bool.{Bool, true, false, cond, and-false, or-false}
-use mathlib.Core.List.{List, _∷_, _++_}
+use mathlib.Core.Bool.{Bool, true, false, cond}
+use mathlib.Core.List.{List}
 use mathlib.Core.Logic.{⊎-elim}
 use native.Mathlib.Nat.{eq-or-lt-of-le}
 use native.Mathlib.Numerals.{add-one}
 use native.Mathlib.Omega.{arith}
 use lib.Dec.{ltb, leb}
-use lib.ListN.{length, take, drop}
-use borrow.Author.Tests.{ltb-true, le-ltb, leb-true, leb-false}
+use lib.ListN.{length, take}
+use borrow.Author.Tests.{ltb-true, leb-true, leb-false}
 use Rattle.theory.specs.Queue.{Queue, firstOnes, inserted}
 use Rattle.theory.proofs.Tests.{and-reading}
 use Rattle.theory.proofs.Places.{at-word}
 use Rattle.theory.proofs.FirstOnes.{taking, taken-waits}
-use Rattle.theory.proofs.Insertion.{behind-earlier, inserted-at}
 use Rattle.theory.proofs.OnePass.{below, ones-start, ones-passed, ones-end, ones-insert, ones-in-order}
 use Rattle.model.specs.Limits.{notBegun}
 use Rattle.model.specs.Sheet.{word}
-use Rattle.model.specs.Analysis.{outranks}
-use Rattle.model.specs.Protocol.{releases, releaseTick, releaseStream, ofNode, streamOfRelease, queuedBefore, waiting, queueOf, takenBy}
+use Rattle.model.specs.Protocol.{releases, releaseTick, releaseStream, ofNode, queuedBefore, waiting, queueOf, takenBy}
 use Rattle.model.proofs.Protocol.Queue.{ofNode-reading, queue-total}
 use Rattle.model.proofs.Protocol.Waiting.{waiting-true, waiting-holds, waiting-begun, waiting-later, waiting-other}
-use Rattle.queue.specs.Queue.{Arrived, BegunFrom, Found, foundWith, foundBy}
+use Rattle.ordering.specs.Ordering.{Found}
+use Rattle.queue.specs.Queue.{Arrived, BegunFrom, foundWith, foundBy}
 
 -- One more release has begun.
 pub begun-more : (room : List ℕ) (from to : ℕ)
@@ -32,31 +31,6 @@ pub begun-more : (room : List ℕ) (from to : ℕ)
     → BegunFrom room from (to + 1)
 begun-more room from to begun here i low high =
     let last : i ≤ to = omega arith in ⊎-elim (λ same. rw same here) (λ less. begun i low less) (eq-or-lt-of-le last)
-
-module _ (s log : List ℕ) (k : ℕ) where
-  -- Of two releases the later one in the log is queued before the other exactly where its stream is ranked above.
-  pub later-before : (i x : ℕ) → x < i → queuedBefore s log k i x ≡ outranks (streamOfRelease s log k i) (streamOfRelease s log k x)
-  unfolding queuedBefore
-  later-before i x earlier = rw (le-ltb i x (omega arith), and-false, or-false)
-
-  -- A release that is queued before the one at place j and not before the one before it is put in at place j,
-  pub placed-after : {i : ℕ} (xs : List ℕ) (j : ℕ)
-      → Found s log k i xs
-      → 0 < j
-      → j ≤ length xs
-      → queuedBefore s log k i (word xs (j - 1)) ≡ false
-      → (j < length xs → queuedBefore s log k i (word xs j) ≡ true)
-      → inserted (queuedBefore s log k) i xs ≡ take j xs ++ i ∷ drop j xs
-  placed-after {i} xs j found some upTo behind ahead =
-      inserted-at (queuedBefore s log k) i xs j upTo
-      (λ p low. behind-earlier (queue-total s log k) xs i p (j - 1) (found .inOrder) (omega arith) (omega arith) behind)
-      ahead
-
-  -- and one that is queued before all of them at the front.
-  pub placed-first : {i : ℕ} (xs : List ℕ)
-      → (0 < length xs → queuedBefore s log k i (word xs 0) ≡ true)
-      → inserted (queuedBefore s log k) i xs ≡ take 0 xs ++ i ∷ drop 0 xs
-  placed-first {i} xs ahead = inserted-at (queuedBefore s log k) i xs 0 zero-le (λ p low. absurd (omega arith)) ahead
 
 -- The look has come to release i: those found are the first ones of the queue of those before i.
 pub record Looked (s log : List ℕ) (k tick m : ℕ) (room : List ℕ) (i count : ℕ) (found : List ℕ) : Type 0 where

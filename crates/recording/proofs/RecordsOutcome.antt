@@ -30,7 +30,8 @@ use Rattle.log.specs.Replay.{replayRefusal}
 use Rattle.queue.specs.Queue.{Rising}
 use Rattle.bus.proofs.AcceptedLog.{log-rises}
 use Rattle.bus.proofs.ReplayOutcome.{replay-checked, replay-refused}
-use Rattle.recording.specs.Recording.{recordsRefusal, KnownStreams, UpToDate}
+use Rattle.recorded.specs.Recorded.{KnownStreams, UpToDate}
+use Rattle.recording.specs.Recording.{recordsRefusal}
 
 -- What the replay with stream records answers, writes and lists.
 pub record RecordsOutcome (s log : List ℕ) (horizon : ℕ) (room : List ℕ) (records : List StreamRecord) (answer : Answer)

@@ -17,9 +17,9 @@ use Rattle.model.proofs.Answers.Buffer.{buffer-written}
 use Rattle.model.proofs.Answers.NotRefused.{replay-accepted}
 use Rattle.model.proofs.Sheet.ValidSheet.{valid-fits}
 use Rattle.model.proofs.Protocol.Run.{replayed-length}
-use Rattle.report.specs.Text.{replayText}
-use Rattle.report.proofs.Answered.{replayed as answer-replayed, not-replayed}
-use Rattle.report.proofs.Front.{begins-front}
+use Rattle.texts.specs.Text.{replayText}
+use Rattle.texts.proofs.Answered.{replayed as answer-replayed, not-replayed}
+use Rattle.texts.proofs.Front.{begins-front}
 use Rattle.replay.specs.Output.{replayedText, answerText}
 
 -- The table shows the begin ticks of the replay, and a refusal none.

@@ -5,7 +5,7 @@ use Rattle.model.specs.Limits.{maxReleases, longestSheet, longestReplayInput}
 use Rattle.model.specs.Protocol.{releases, replayed}
 use Rattle.model.specs.Answers.{replayAnswer}
 use Rattle.input.specs.Input.{loaded}
-use Rattle.report.specs.Text.{replayText}
+use Rattle.texts.specs.Text.{replayText}
 
 -- "from a second file the horizon as its first word",
 abbrev pub horizonOf : List ℕ → ℕ

@@ -6,7 +6,7 @@ ghost use lib.ListN.{length, take};
 ghost use Rattle.model.specs.Limits.{releaseWords, maxReleases, longestSheet, longestReplayInput};
 ghost use Rattle.io.specs.Counts.{Counts};
 ghost use Rattle.input.specs.Input.{readBytes};
-ghost use Rattle.report.specs.Longest.{longestReplayText};
+ghost use Rattle.texts.specs.Longest.{longestReplayText};
 ghost use Rattle.replay.specs.Output.{replayedText, answerText, output};
 use input::SECOND_BYTES;
 use input::SECOND_WORDS;

@@ -1,10 +1,10 @@
 // The table of a replay.
-ghost use Rattle.report.specs.Put.{Put};
-ghost use Rattle.report.specs.Text.{linesTo, beginText, beginLine, beginTable};
-use crate::put::least;
-use crate::put::put;
-use crate::put::put_labelled;
-use crate::put::put_number;
+ghost use Rattle.digits.specs.Put.{Put};
+ghost use Rattle.texts.specs.Text.{linesTo, beginText, beginLine, beginTable};
+use digits::least;
+use digits::put;
+use digits::put_labelled;
+use digits::put_number;
 use layout::word_at;
 
 // The rest of a line after the release's number.

@@ -5,17 +5,15 @@ ghost use Prim.Native.Nat.{_≤_};
 ghost use lib.ListN.{length, take};
 ghost use Rattle.model.specs.Limits.{maxReleases};
 ghost use Rattle.model.specs.Sheet.{Valid};
-ghost use Rattle.report.specs.Put.{Put, overwritten, fitting};
-ghost use Rattle.report.specs.Text.{refusalText, admitText, replayText};
-ghost use Rattle.report.specs.Longest.{longestAdmitText, longestReplayText};
+ghost use Rattle.digits.specs.Put.{Put, overwritten, fitting};
+ghost use Rattle.texts.specs.Text.{refusalText, admitText, replayText};
+ghost use Rattle.texts.specs.Longest.{longestAdmitText, longestReplayText};
 use begins::put_begins;
+use digits::put;
+use digits::put_labelled;
+use listing::put_waits;
 use model::Answer;
-use put::put;
-use put::put_labelled;
-use waits::put_waits;
 
-mod put; // put.rt: bytes and numbers
-mod waits; // waits.rt: the table of an admitted sheet
 mod begins; // begins.rt: the table of a replay
 
 // "A refusal writes one line only, as `refused 7 at 1 2`."

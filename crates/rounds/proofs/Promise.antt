@@ -25,11 +25,11 @@ use Rattle.rounds.proofs.Settling.{rounds-keep}
 use Rattle.rounds.proofs.Least.{last-range, last-under, last-admits, stuck-none, stuck-eleven}
 
 -- Two rows with the same budgets for the nodes of the sheet.
-abbrev Alike : List ℕ → List ℕ → List ℕ → Type 0
-Alike s row other = (k : ℕ) → 1 ≤ k → k ≤ nodes s → budgetIn row k ≡ budgetIn other k
+abbrev SameBudgets : List ℕ → List ℕ → List ℕ → Type 0
+SameBudgets s row other = (k : ℕ) → 1 ≤ k → k ≤ nodes s → budgetIn row k ≡ budgetIn other k
 
 -- One admits the sheet where the other does.
-alike-admits : (s row other : List ℕ) → Alike s row other → Admits s row → Admits s other
+alike-admits : (s row other : List ℕ) → SameBudgets s row other → Admits s row → Admits s other
 alike-admits s row other same admits =
     let sums : rowSum s row ≡ rowSum s other = sumTo-same (budgetIn row) (budgetIn other) (nodes s) same in
     let cycles : rowCycle s row ≡ rowCycle s other = ap (λ n. cycleTicks n (messageTicks s) (nodes s) (slotTicks s)) sums in
@@ -89,7 +89,7 @@ module _ (s room : List ℕ) (valid : Valid s) (enough : maxNodes ≤ length roo
       (ap (λ (a : Answer). a .number) (refuseIf-not (refuse 6 0 0) (le-ltb (length room) maxNodes enough)))
 
   -- A success leaves the row in the first words.
-  row-written : findAnswer s (length room) .number ≡ 0 → Alike s (lastRow s) (findBuffer s room)
+  row-written : findAnswer s (length room) .number ≡ 0 → SameBudgets s (lastRow s) (findBuffer s room)
   unfolding findBuffer
   row-written passes k one inside =
       let few = fits .header .nodesTo in

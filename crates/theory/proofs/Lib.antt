@@ -7,6 +7,7 @@ pub mod Largest
 pub mod Sums
 pub mod Listing
 pub mod Overwriting
+pub mod Filling
 pub mod Holding
 pub mod Places
 pub mod First

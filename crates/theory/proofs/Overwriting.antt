@@ -5,8 +5,8 @@ use native.Mathlib.Numerals.{add-one}
 use native.Mathlib.Omega.{arith}
 use mathlib.Core.Path.{_≡_, refl, sym, _∙_, ap}
 use mathlib.Core.List.{List, [], _∷_, _++_, append-nil, append-assoc}
-use lib.ListN.{length, getD, set, take, drop, length-append, length-drop, take-append-drop, drop-of-length-le}
-use lib.Seq.{length-take-le, drop-drop, take-at, drop-at, drop-append-add, drop-cons, set-at, append-snoc, take-suc, take-length, take-all, take-suc-set, drop-set-lt}
+use lib.ListN.{length, getD, set, take, drop, length-append, length-drop, take-append-drop, drop-of-length-le, List·getD-append}
+use lib.Seq.{length-take-le, getD-take, getD-drop, getD-append-add, drop-drop, take-at, drop-at, drop-append-add, drop-cons, set-at, append-snoc, take-suc, take-length, take-all, take-suc-set, drop-set-lt}
 use borrow.Author.Tests.{le-ltb, lt-ltb}
 use Rattle.theory.specs.Listing.{replacedAt, putFront}
 
@@ -35,6 +35,33 @@ module _ (xs : List ℕ) (at : ℕ) (vs : List ℕ) (fits : at + length vs ≤ l
       ap length whole
       ∙ length-append (take at xs ++ vs) (drop (at + length vs) xs)
       ∙ omega (arith, fits, front-length, length-drop (at + length vs) xs)
+
+  front : length (take at xs) ≡ at
+  front = length-take-le at xs (omega (arith, fits))
+
+  -- Its words: one before the values,
+  pub over-before : (i : ℕ) → i < at → getD (replacedAt xs at vs) i 0 ≡ getD xs i 0
+  over-before i low =
+      List·getD-append (take at xs) (vs ++ drop (at + length vs) xs) 0 i (omega (arith, front)) ∙ getD-take at xs i 0 low
+
+  -- one of them,
+  pub over-there : (r : ℕ) → r < length vs → getD (replacedAt xs at vs) (at + r) 0 ≡ getD vs r 0
+  over-there r low =
+      let here : at + r ≡ length (take at xs) + r = omega (arith, front) in
+      ap (λ i. getD (replacedAt xs at vs) i 0) here
+      ∙ getD-append-add (take at xs) (vs ++ drop (at + length vs) xs) r 0
+      ∙ List·getD-append vs (drop (at + length vs) xs) 0 r low
+
+  -- and one after them.
+  pub over-after : (i : ℕ) → at + length vs ≤ i → getD (replacedAt xs at vs) i 0 ≡ getD xs i 0
+  over-after i high =
+      let past = i - (at + length vs) in
+      let here : i ≡ at + length vs + past = omega arith in
+      ap (λ i. getD (replacedAt xs at vs) i 0) here
+      ∙ sym (getD-drop (at + length vs) (replacedAt xs at vs) past 0)
+      ∙ ap (λ ys. getD ys past 0) over-past
+      ∙ getD-drop (at + length vs) xs past 0
+      ∙ ap (λ i. getD xs i 0) (sym here)
 
   -- More values after them.
   pub over-more : (ws : List ℕ) → replacedAt (replacedAt xs at vs) (at + length vs) ws ≡ replacedAt xs at (vs ++ ws)

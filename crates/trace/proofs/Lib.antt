@@ -1,4 +1,2 @@
--- Laws that the proofs of a run with its trace cite, one subject a file.
-pub mod Listing
-pub mod TurnFits
+-- Laws that the proofs of a run with its trace cite.
 pub mod Tracing

@@ -22,12 +22,12 @@ use Rattle.model.proofs.Protocol.RunWords.{words-done, words-fuel, words-next, 
 use Rattle.model.proofs.Protocol.TurnCount.{begun-most}
 use Rattle.model.proofs.Trace.TurnWords.{listed-count, listed-even}
 use Rattle.queue.specs.Queue.{ValidNode, Arrived, FirstUnbegun}
-use Rattle.bus.specs.Run.{stateIn}
+use Rattle.runs.specs.Run.{stateIn}
 use Rattle.turns.proofs.TurnSteps.{served-by}
-use Rattle.bus.proofs.RunSteps.{Running, passed-idle, running-from, running-on, running-passed}
-use Rattle.trace.specs.declared.Progress.{Progress}
+use Rattle.runs.proofs.RunSteps.{Running, passed-idle, running-from, running-on, running-passed}
+use Rattle.progress.specs.declared.Progress.{Progress}
 use Rattle.trace.specs.Progress.{NoneBefore}
-use Rattle.trace.proofs.TurnFits.{turn-fits}
+use Rattle.progress.proofs.TurnFits.{turn-fits}
 
 -- The run from a record has come this far, with these begin words and these words listed.
 pub record Tracing (s log numbers : List ℕ) (held horizon : ℕ) (start : Bus) (begins₀ room₀ begins room : List ℕ) (p : Progress) : Type 0 where

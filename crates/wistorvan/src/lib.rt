@@ -13,6 +13,7 @@ ghost use Rattle.rounds.specs.Answer.{findAnswer, findBuffer};
 ghost use Rattle.rounds.specs.Least.{LeastBudgets};
 ghost use Rattle.tables.specs.Tables.{lentTables};
 ghost use Rattle.tables.specs.Writing.{writeAnswer, writeBuffer, ReadsBack, WrittenAgain};
+ghost use Rattle.edits.specs.Edit.{editOf, editAnswer, editSheet, OthersKept};
 use model::Answer;
 use model::Bus;
 use model::StreamRecord;
@@ -156,4 +157,24 @@ pub extern "C" fn wistorvan_write_sheet(
         jitters,
         room,
     )
+}
+
+// "The recorder is a guest on the owner's sheet": the period, the deadline and the jitter of a stream of our own node set in the lent sheet, and
+// no other word. The sheet after a success is valid, and the one-stream answers on all other nodes are as they were.
+#[no_mangle]
+pub extern "C" fn wistorvan_edit_stream(
+    sheet: &mut [u32],
+    own_node: u32,
+    node: u32,
+    stream: u32,
+    period: u32,
+    deadline: u32,
+    jitter: u32,
+) -> Answer
+    ensures answer { λ r. ⌜ r ≡ editAnswer (now (sheet .entry)) (editOf «own_node» node stream period deadline jitter) ⌝ }
+    ensures sheet { λ r. ⌜ now (sheet .exit) ≡ editSheet (now (sheet .entry)) (editOf «own_node» node stream period deadline jitter) ⌝ }
+    ensures valid { λ r. ⌜ (r .number ≡ 0 → Valid (now (sheet .exit))) ⌝ }
+    ensures others { λ r. ⌜ OthersKept (now (sheet .entry)) (now (sheet .exit)) «own_node» ⌝ }
+{
+    editor::edit_stream(sheet, own_node, node, stream, period, deadline, jitter)
 }

@@ -7,9 +7,6 @@ ghost use Rattle.tables.specs.Tables.{lentTables, sumOf};
 ghost use Rattle.tables.specs.Writing.{cycleOf, contentsRefusal, written, writeAnswer, writeBuffer, ReadsBack, WrittenAgain};
 ghost use Rattle.model.specs.Limits.{maxNodes, maxStreams};
 ghost use Rattle.model.specs.Sheet.{bodyAt};
-
-mod parts;
-
 use model::Answer;
 use range::refuse_if;
 
@@ -19,7 +16,7 @@ fn cycle_of(message: u32, slot: u32, counts: &[u32], budgets: &[u32]) -> u32
     ensures { λ r. ⌜ r ≡ cycleOf message slot (now (counts .entry)) (now (budgets .entry)) ⌝ }
 {
     let n = counts.len() as u32;
-    validation::sum_up_to(budgets, n) as u32 * message + n * slot
+    entries::sum_up_to(budgets, n) as u32 * message + n * slot
 }
 
 // The words that the sheet of n nodes takes.
@@ -27,7 +24,7 @@ fn sheet_words(counts: &[u32], n: u32) -> usize
     requires { ⌜ (n ≡ length (now counts)) × (sumOf (now counts) ≤ maxNodes * maxStreams) ⌝ }
     ensures { λ r. ⌜ r ≡ bodyAt n (sumOf (now (counts .entry))) ⌝ }
 {
-    layout::first_body_at(n) + layout::body_words(validation::sum_up_to(counts, n) as u32)
+    layout::first_body_at(n) + layout::body_words(entries::sum_up_to(counts, n) as u32)
 }
 
 // The words of the sheet in the buffer's first ones: header, contents rows, bodies.

@@ -58,7 +58,7 @@ pub(super) fn sharpen_deadline(sheet: &mut [u32], random: &mut Random) -> Option
         tighten_node(sheet, &bus, bus.node_of(stream));
     }
     let past = random.weighted(&[10, 45, 45]) as u64;
-    let sharp = settle(sheet, stream, past);
+    let sharp = settle_deadline(sheet, stream, past);
     if sharp.is_none() {
         sheet.copy_from_slice(&old);
     }
@@ -92,7 +92,7 @@ fn tighten_node(sheet: &mut [u32], bus: &Bus, node: usize) {
 /// a longer one may move it down. The rounds go one way and each passes another
 /// stream of the node, until one moves nothing: then the edge is that of the
 /// sheet as it stands.
-fn settle(sheet: &mut [u32], stream: usize, past: u64) -> Option<usize> {
+pub(super) fn settle_deadline(sheet: &mut [u32], stream: usize, past: u64) -> Option<usize> {
     for _ in 0..=16 {
         let bus = Bus::read(sheet).ok()?;
         let deadline = edge(&bus, stream, past)?;

@@ -70,6 +70,17 @@ pub(super) fn add_jitters(sheet: &mut [u32], random: &mut Random) {
     }
 }
 
+/// The jitter with one tick to spare, the last one in time or the first late one,
+/// for `past` 0, 1 or 2. Below the deadline, and so below the period.
+fn at_the_edge(spare: u64, past: u64) -> u32 {
+    (spare + past).saturating_sub(1) as u32
+}
+
+/// The same of a stream as it is ranked now; none if it is late without any.
+pub(super) fn edge_jitter(bus: &Bus, stream: usize, past: u64) -> Option<u32> {
+    Some(at_the_edge(spare(bus, stream)?, past))
+}
+
 /// Brings one jitter to the edge of the late test, just in time or one tick
 /// late, seldom with one tick to spare, and answers of which stream. No wait of
 /// the stream itself moves with it.
@@ -78,7 +89,6 @@ pub(super) fn sharpen_jitter(sheet: &mut [u32], random: &mut Random) -> Option<u
     let stream = lower_of_two(random, &bus)?;
     let spare = spare(&bus, stream)?;
     let past = random.weighted(&[10, 45, 45]) as u64;
-    // Below the deadline, and so below the period.
-    sheet[place(sheet, &bus, stream) + 2] = (spare + past).saturating_sub(1) as u32;
+    sheet[place(sheet, &bus, stream) + 2] = at_the_edge(spare, past);
     Some(stream)
 }

@@ -3,6 +3,7 @@
 
 mod budgets;
 mod deadlines;
+mod edits;
 mod faults;
 mod full;
 mod jitters;
@@ -12,6 +13,7 @@ mod long;
 mod made_up;
 mod named;
 mod named_budgets;
+mod named_edits;
 mod named_full;
 mod named_jitters;
 mod named_pieces;
@@ -34,8 +36,10 @@ use sheets::{valid_sheet, Valid};
 
 pub use budgets::{budgets_case, many_rounds, BudgetsCase, MOST_TRIES_A_ROW};
 pub(crate) use deadlines::total_tries;
+pub use edits::{alike_case, edits_case, AlikeCase, EditsCase};
 pub use named::named;
 pub use named_budgets::named_budgets;
+pub use named_edits::{named_alike, named_edits};
 pub use named_pieces::named_pieces;
 pub use named_records::named_records;
 pub use named_tables::named_tables;
@@ -75,14 +79,11 @@ pub struct Case {
 /// The same for the same seed and index, whatever other cases are made.
 pub fn case(seed: u64, index: u64) -> Case {
     let random = &mut Random::new(seed, index);
-    let Valid {
-        mut sheet,
-        tries,
+    let CaseSheet {
+        sheet,
         sharp,
         asked,
-    } = valid_sheet(random);
-    damage_sheet(random, &mut sheet);
-    limit_tries(&mut sheet, tries);
+    } = case_sheet(random);
     let bus = Bus::read(&sheet).ok();
     let traffic = traffic(random, bus.as_ref(), sharp);
     let mut log = ordered_log(random, &traffic);
@@ -102,6 +103,30 @@ pub fn case(seed: u64, index: u64) -> Case {
         record,
         room,
         step_room,
+    }
+}
+
+/// The sheet of a case, which may be damaged, and the streams that were at the
+/// edge of the late test and to be asked about before.
+struct CaseSheet {
+    sheet: Vec<u32>,
+    sharp: Option<usize>,
+    asked: Option<usize>,
+}
+
+fn case_sheet(random: &mut Random) -> CaseSheet {
+    let Valid {
+        mut sheet,
+        tries,
+        sharp,
+        asked,
+    } = valid_sheet(random);
+    damage_sheet(random, &mut sheet);
+    limit_tries(&mut sheet, tries);
+    CaseSheet {
+        sheet,
+        sharp,
+        asked,
     }
 }
 

@@ -102,9 +102,14 @@ fn budgets(random: &mut Random, nodes: u64) -> Vec<u32> {
 /// Period, deadline and jitter: the ends of the ranges and all between, or, so
 /// that one in the wrong place is told from all others, numbers that count up.
 fn stream(random: &mut Random, counted: Option<u32>, number: u32) -> [u32; STREAM_WORDS] {
-    if let Some(start) = counted {
-        return [2, 1, 0].map(|more| start + 3 * number + more);
+    match counted {
+        Some(start) => [2, 1, 0].map(|more| start + 3 * number + more),
+        None => any_stream(random),
     }
+}
+
+/// The ends of the ranges and all between.
+pub(super) fn any_stream(random: &mut Random) -> [u32; STREAM_WORDS] {
     let period = extreme_ticks(random, LAST_TICK);
     let deadline = extreme_ticks(random, period);
     let near = [deadline - 1, deadline, deadline + 1].map(|jitter| jitter.min(period - 1));

@@ -9,8 +9,8 @@ use Rattle.model.specs.Refusal.{success, refuse}
 use Rattle.model.proofs.Sheet.Refusals.{refused, passed}
 use Rattle.model.proofs.Answers.Buffer.{buffer-kept, buffer-written}
 use Rattle.rounds.specs.Rounds.{rowSum, rowCycle}
-use Rattle.budgets.specs.Row.{stuckAt}
-use Rattle.budgets.proofs.Judging.{stuck-named, stuck-unnamed}
+use Rattle.rows.specs.Row.{stuckAt}
+use Rattle.rows.proofs.Judging.{stuck-named, stuck-unnamed}
 use Rattle.budgets.proofs.finish.Statement.{statement}
 use Rattle.budgets.proofs.finish.Tie as tie
 

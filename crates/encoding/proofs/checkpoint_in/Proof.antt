@@ -1,4 +1,4 @@
--- `pieces::words::checkpoint_in` meets its contract: each field is read at its place. Assumes nothing.
+-- `encoding::checkpoint_in` meets its contract: each field is read at its place. Assumes nothing.
 use mathlib.Core.Path.{refl}
 use borrow.Author.Needs.{needs}
 use Rattle.encoding.specs.Words.{checkpointIn}

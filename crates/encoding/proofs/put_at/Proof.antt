@@ -1,4 +1,4 @@
--- `pieces::words::put_at` meets its contract: the values are put into the part that is lent from the place on. Assumes nothing.
+-- `encoding::put_at` meets its contract: the values are put into the part that is lent from the place on. Assumes nothing.
 use Prim.Native.Nat.{_-_, _≤_}
 use mathlib.Core.Path.{_∙_}
 use native.Mathlib.Omega.{arith}

@@ -1,4 +1,4 @@
--- `pieces::words::put_checkpoint` meets its contract: the four parts of the record's words take all places. Assumes nothing.
+-- `encoding::put_checkpoint` meets its contract: the four parts of the record's words take all places. Assumes nothing.
 use native.Mathlib.Omega.{arith}
 use borrow.Author.Needs.{needs}
 use Rattle.pieces.proofs.Opening.{places}

@@ -1,4 +1,4 @@
--- `pieces::words::resume_in` meets its contract: the record in the table is resumed, and a refusal leaves the table. Assumes nothing.
+-- `encoding::resume_in` meets its contract: the record in the table is resumed, and a refusal leaves the table. Assumes nothing.
 use borrow.Author.Needs.{needs}
 use lib.ListN.{length}
 use Rattle.encoding.proofs.WordsOutcome.{table-kept, table-run}

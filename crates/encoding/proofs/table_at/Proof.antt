@@ -1,4 +1,4 @@
--- `pieces::words::table_at` meets its contract: the words from the place on are put over all words of a new table. Assumes nothing.
+-- `encoding::table_at` meets its contract: the words from the place on are put over all words of a new table. Assumes nothing.
 use Prim.Native.Nat.{_+_, _-_}
 use mathlib.Core.Path.{refl}
 use native.Mathlib.Omega.{arith}

@@ -1,4 +1,4 @@
--- `wait::interference::interference_of` meets its contract: the sum so far is that over the streams so far. Assumes nothing.
+-- `interference::interference_of` meets its contract: the sum so far is that over the streams so far. Assumes nothing.
 use Prim.Native.Nat.{_≤_, _-_, _*_}
 use mathlib.Core.Path.{_≡_, sym, ap₂, _∙_}
 use native.Mathlib.Omega.{arith}

@@ -1,4 +1,4 @@
--- `wait::interference::most_releases` meets its contract: the quotient is at most the window with the jitter. Assumes nothing.
+-- `interference::most_releases` meets its contract: the quotient is at most the window with the jitter. Assumes nothing.
 use Prim.Native.Nat.{_+_}
 use native.Mathlib.Nat.{div-le-self}
 use native.Mathlib.Omega.{arith}

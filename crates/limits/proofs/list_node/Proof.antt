@@ -8,9 +8,9 @@ use lib.Seq.{length-take-le}
 use Rattle.theory.proofs.Ordering.{ordered-range}
 use Rattle.model.specs.Sheet.{streamCount}
 use Rattle.model.proofs.Sheet.ValidSheet.{valid-fits}
-use Rattle.analysis.specs.Body.{Body}
-use Rattle.analysis.proofs.InRange.{body-there}
-use Rattle.limits.specs.Ranking.{rankedBefore, rankOrder}
+use Rattle.verdicts.specs.Body.{Body}
+use Rattle.verdicts.proofs.InRange.{body-there}
+use Rattle.ranking.specs.Ranking.{rankedBefore, rankOrder}
 use Rattle.limits.proofs.Passed.{timing-own}
 use Rattle.limits.proofs.list_node.Statement.{statement}
 use Rattle.limits.proofs.list_node.Tie as tie

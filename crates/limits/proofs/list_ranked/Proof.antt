@@ -12,8 +12,8 @@ use Rattle.theory.proofs.Ordering.{ordered-has}
 use Rattle.model.specs.Sheet.{streamCount, period, jitter}
 use Rattle.model.proofs.Sheet.ValidSheet.{valid-fits}
 use Rattle.interference.specs.InRange.{Ranges}
-use Rattle.analysis.proofs.InRange.{own-shares, timing-ranges, stream-ranges}
-use Rattle.limits.specs.Ranking.{rankedBefore, rankOrder, Numbers}
+use Rattle.verdicts.proofs.InRange.{own-shares, timing-ranges, stream-ranges}
+use Rattle.ranking.specs.Ranking.{rankedBefore, rankOrder, Numbers}
 use Rattle.limits.proofs.Filled.{limitAt, Stored, stored-none, stored-more, stored-all}
 use Rattle.limits.proofs.Passed.{rank-length, rank-on, limit-passed, passed-ranges, Passed, passed-none, passed-next, passed-one, passed-two}
 use Rattle.limits.proofs.list_ranked.Statement.{statement}

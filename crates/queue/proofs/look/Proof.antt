@@ -8,7 +8,7 @@ use Rattle.model.specs.Limits.{notBegun}
 use Rattle.model.specs.Sheet.{word, budget}
 use Rattle.model.specs.Protocol.{releases}
 use Rattle.model.proofs.Protocol.Waiting.{waiting-begun}
-use Rattle.queue.specs.Queue.{streamsAs}
+use Rattle.ordering.specs.Ordering.{streamsAs}
 use Rattle.queue.proofs.Search.{Looked, look-start, look-on, look-next, look-end, look-found}
 use Rattle.queue.proofs.look.Statement.{statement}
 use Rattle.queue.proofs.look.Tie as tie

@@ -10,7 +10,7 @@ use borrow.Author.Needs.{needs}
 use Prim.Native.Nat.{ℕ}
 use Rattle.model.specs.Protocol.{releaseTick, releaseStream}
 use Rattle.model.proofs.Protocol.Queue.{ofNode-reading, ofNode-below, ofNode-above}
-use Rattle.queue.specs.Queue.{OwnRelease}
+use Rattle.ordering.specs.Ordering.{OwnRelease}
 use Rattle.queue.proofs.look_at.Statement.{statement}
 use Rattle.queue.proofs.look_at.Tie as tie
 

@@ -62,7 +62,8 @@ use Rattle.model.proofs.Sheet.NodeSums.{total-most}
 use Rattle.model.proofs.Sheet.ValidSheet.{valid-fits}
 use Rattle.limits.specs.Limits.{LimitsOf}
 use Rattle.queue.specs.Queue.{Rising}
-use Rattle.recording.specs.Recording.{recordsRefusal, KnownStreams, UpToDate}
+use Rattle.recorded.specs.Recorded.{KnownStreams, UpToDate}
+use Rattle.recording.specs.Recording.{recordsRefusal}
 use Rattle.records.proofs.Elements.{told}
 use Rattle.records.proofs.Lending.{sliceAt, slice, lends-row, row-back, lends-row-shared, row-back-shared, lends-again, comes-back, gives-up}
 use Rattle.records.proofs.LocalArray.{zeros-are, array-row, array-room}
@@ -90,10 +91,10 @@ use Rattle.limits.proofs.put_limits as limits
 use Rattle.limits.proofs.put_limits.Met as limits-thm
 use Rattle.limits.proofs.put_limits.Symbol as limits-def
 use Rattle.limits.proofs.put_limits.Symbol.{name as #limits·put-limits}
-use Rattle.recording.proofs.run_to_with_records as runs-to
-use Rattle.recording.proofs.run_to_with_records.Met as runs-to-thm
-use Rattle.recording.proofs.run_to_with_records.Symbol as runs-to-def
-use Rattle.recording.proofs.run_to_with_records.Symbol.{name as #recording·run-to-with-records}
+use Rattle.recorded.proofs.run_to_with_records as runs-to
+use Rattle.recorded.proofs.run_to_with_records.Met as runs-to-thm
+use Rattle.recorded.proofs.run_to_with_records.Symbol as runs-to-def
+use Rattle.recorded.proofs.run_to_with_records.Symbol.{name as #recorded·run-to-with-records}
 use Rattle.recording.proofs.replay_with_records.Key.{name as #recording·replay-with-records}
 use Rattle.recording.proofs.replay_with_records as replay
 use Rattle.recording.proofs.replay_with_records.Statement as stated
@@ -138,7 +139,7 @@ module _ {M : Type 1} (𝓤 : URA M) (H : Heap 𝓤) (A : Atoms 𝓤) (mem′ : 
     pub count-meets : Triple 𝓤 (C #recording·count-streams) CountStreams
     pub clears-meets : Triple 𝓤 (C #records·clear-records) ClearRecords
     pub limits-meets : Triple 𝓤 (C #limits·put-limits) Limits
-    pub run-meets : Triple 𝓤 (C #recording·run-to-with-records) RunTo
+    pub run-meets : Triple 𝓤 (C #recorded·run-to-with-records) RunTo
 
 -- a test that does not hold, and one of which it does not hold that it does not
 not-true : (t : Bool) → T (not t) → t ≡ false
@@ -501,6 +502,6 @@ replay-with-records-spec 𝓤 H 𝓜 𝓖 𝓡 =
           code.calls-records·clear-records (clears-thm.met 𝓤 H 𝓜 𝓖 𝓡);
       limits-meets = cited 𝓤 H (Limits 𝓤 H (𝓖 .A) (𝓜 .mem) (𝓡 .run)) 𝓜 𝓡 code.env #limits·put-limits limits-def.routine code.calls-limits·put-limits
           (limits-thm.met 𝓤 H 𝓜 𝓖 𝓡);
-      run-meets = cited 𝓤 H (RunTo 𝓤 H (𝓖 .A) (𝓜 .mem) (𝓡 .run)) 𝓜 𝓡 code.env #recording·run-to-with-records runs-to-def.routine
-          code.calls-recording·run-to-with-records (runs-to-thm.met 𝓤 H 𝓜 𝓖 𝓡);
+      run-meets = cited 𝓤 H (RunTo 𝓤 H (𝓖 .A) (𝓜 .mem) (𝓡 .run)) 𝓜 𝓡 code.env #recorded·run-to-with-records runs-to-def.routine
+          code.calls-recorded·run-to-with-records (runs-to-thm.met 𝓤 H 𝓜 𝓖 𝓡);
     }))

@@ -7,11 +7,11 @@ use lib.ListN.{length}
 use Prim.Native.Nat.{_≤_}
 use mathlib.Core.Path.{_≡_}
 use Rattle.model.specs.Sheet.{Valid}
-use Rattle.report.specs.Text.{admitText}
-use Rattle.report.specs.Longest.{longestAdmitText}
-use Rattle.report.proofs.Putting.{shown}
-use Rattle.report.proofs.Answered.{admitted, not-admitted}
-use Rattle.report.proofs.Lengths.{admit-length}
+use Rattle.texts.specs.Text.{admitText}
+use Rattle.texts.specs.Longest.{longestAdmitText}
+use Rattle.digits.proofs.Putting.{shown}
+use Rattle.texts.proofs.Answered.{admitted, not-admitted}
+use Rattle.texts.proofs.Lengths.{admit-length}
 use Rattle.report.proofs.admit_text.Statement.{statement}
 use Rattle.report.proofs.admit_text.Tie as tie
 

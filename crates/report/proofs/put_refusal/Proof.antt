@@ -1,8 +1,8 @@
 -- `report::put_refusal` meets its contract: the parts of the line, one after the other.
 -- Assumes nothing.
 use borrow.Author.Needs.{needs}
-use Rattle.report.specs.Text.{refusalText}
-use Rattle.report.proofs.Putting.{then}
+use Rattle.texts.specs.Text.{refusalText}
+use Rattle.digits.proofs.Putting.{then}
 use Rattle.report.proofs.put_refusal.Statement.{statement}
 use Rattle.report.proofs.put_refusal.Tie as tie
 

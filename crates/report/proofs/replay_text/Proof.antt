@@ -6,11 +6,11 @@ use borrow.Author.Needs.{needs}
 use lib.ListN.{length}
 use Prim.Native.Nat.{_≤_}
 use Rattle.model.specs.Limits.{maxReleases}
-use Rattle.report.specs.Text.{replayText}
-use Rattle.report.specs.Longest.{longestReplayText}
-use Rattle.report.proofs.Putting.{shown}
-use Rattle.report.proofs.Answered.{replayed, not-replayed}
-use Rattle.report.proofs.Lengths.{replay-length}
+use Rattle.texts.specs.Text.{replayText}
+use Rattle.texts.specs.Longest.{longestReplayText}
+use Rattle.digits.proofs.Putting.{shown}
+use Rattle.texts.proofs.Answered.{replayed, not-replayed}
+use Rattle.texts.proofs.Lengths.{replay-length}
 use Rattle.report.proofs.replay_text.Statement.{statement}
 use Rattle.report.proofs.replay_text.Tie as tie
 

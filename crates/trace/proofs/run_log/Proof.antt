@@ -12,8 +12,8 @@ use Rattle.model.proofs.Protocol.Idle.{silent-before}
 use Rattle.model.proofs.Protocol.TurnCount.{begun-most}
 use Rattle.queue.specs.Queue.{FirstUnbegun}
 use Rattle.turns.proofs.TurnSteps.{clock-moves}
-use Rattle.bus.proofs.RunSteps.{moved-on, running-done}
-use Rattle.trace.specs.declared.Progress.{Progress}
+use Rattle.runs.proofs.RunSteps.{moved-on, running-done}
+use Rattle.progress.specs.declared.Progress.{Progress}
 use Rattle.trace.proofs.Tracing.{Tracing, tracing-start, tracing-idle, tracing-turn, tracing-done}
 use Rattle.trace.proofs.run_log.Statement.{statement}
 use Rattle.trace.proofs.run_log.Tie as tie

@@ -1,4 +1,4 @@
--- `bus::turns::begin_messages` meets its contract: what is left to begin from here makes the whole. Assumes nothing.
+-- `turns::begin_messages` meets its contract: what is left to begin from here makes the whole. Assumes nothing.
 use Prim.Native.Nat.{_+_, _-_, _*_, _≤_, _<_}
 use native.Mathlib.Omega.{arith}
 use mathlib.Core.Path.{_≡_, refl, _∙_}

@@ -1,4 +1,4 @@
--- `bus::turns::clear` meets its contract: the words passed are filled, and the others are as they were. Assumes nothing.
+-- `turns::clear` meets its contract: the words passed are filled, and the others are as they were. Assumes nothing.
 use Prim.Native.Nat.{_≤_, _-_}
 use mathlib.Core.Path.{_≡_, refl}
 use mathlib.Core.List.{_++_}

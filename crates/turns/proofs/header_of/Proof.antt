@@ -1,4 +1,4 @@
--- `bus::turns::header_of` meets its contract: each word is read where the definition has it. Assumes nothing.
+-- `turns::header_of` meets its contract: each word is read where the definition has it. Assumes nothing.
 use borrow.Author.Needs.{needs}
 use Rattle.turns.proofs.header_of.Statement.{statement}
 use Rattle.turns.proofs.header_of.Tie as tie

@@ -1,4 +1,4 @@
--- `bus::turns::next_bus` meets its contract: a turn of sixteen longest messages fits, so no sum wraps. Assumes nothing.
+-- `turns::next_bus` meets its contract: a turn of sixteen longest messages fits, so no sum wraps. Assumes nothing.
 use Prim.Native.Nat.{_*_, _≤_}
 use mathlib.Core.Path.{ap}
 use native.Mathlib.Nat.{mul-le-mul}

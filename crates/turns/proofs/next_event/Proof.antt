@@ -1,4 +1,4 @@
--- `bus::turns::next_event` meets its contract: the next release is the earliest that is left, since ticks never fall.
+-- `turns::next_event` meets its contract: the next release is the earliest that is left, since ticks never fall.
 -- Assumes nothing.
 use Prim.Native.Nat.{ℕ, _≤_, _<_}
 use mathlib.Core.List.{List}

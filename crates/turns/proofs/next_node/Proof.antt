@@ -1,4 +1,4 @@
--- `bus::turns::next_node` meets its contract: the branch decides the definition's test. Assumes nothing.
+-- `turns::next_node` meets its contract: the branch decides the definition's test. Assumes nothing.
 use mathlib.Core.Path.{refl, sym, ap, _∙_}
 use native.Mathlib.Omega.{arith}
 use borrow.Author.Tests.{eq-eqb, ne-eqb}

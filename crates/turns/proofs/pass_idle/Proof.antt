@@ -1,4 +1,4 @@
--- `bus::turns::pass_idle` meets its contract: the record's fields are those of the definition, and the silent turns end soon after
+-- `turns::pass_idle` meets its contract: the record's fields are those of the definition, and the silent turns end soon after
 -- the tick that they go up to, so that all fit. Assumes nothing.
 use Prim.Native.Nat.{ℕ, pred, _+_, _-_, _*_, _%_, _≤_}
 use mathlib.Core.Path.{_≡_, refl, ap}

@@ -1,4 +1,4 @@
--- `bus::turns::run_turn` meets its contract: those that the look finds are those that the turn takes. Assumes nothing.
+-- `turns::run_turn` meets its contract: those that the look finds are those that the turn takes. Assumes nothing.
 use native.Mathlib.Omega.{arith}
 use mathlib.Core.Path.{sym, ap, _∙_}
 use lib.Seq.{length-take-le}

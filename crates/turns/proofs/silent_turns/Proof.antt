@@ -1,4 +1,4 @@
--- `bus::turns::silent_turns` meets its contract: the quotient is the definition's, which a law bounds.
+-- `turns::silent_turns` meets its contract: the quotient is the definition's, which a law bounds.
 -- Assumes nothing.
 use mathlib.Core.Path.{refl}
 use borrow.Author.Needs.{needs}

@@ -1,4 +1,4 @@
--- `tables::check_bodies` meets its contract: what is left of the row of checks equals the whole, and the streams passed are those of the
+-- `validation::check_bodies` meets its contract: what is left of the row of checks equals the whole, and the streams passed are those of the
 -- nodes passed. Assumes nothing.
 use Prim.Native.Nat.{ℕ, _≤_, _*_, _-_, _+_}
 use mathlib.Core.Path.{_≡_, sym, _∙_}

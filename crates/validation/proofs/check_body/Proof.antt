@@ -1,4 +1,4 @@
--- `tables::check_body` meets its contract: what is left of the row of checks equals the whole. Assumes nothing.
+-- `validation::check_body` meets its contract: what is left of the row of checks equals the whole. Assumes nothing.
 use Prim.Native.Nat.{_≤_, _-_}
 use mathlib.Core.Path.{_≡_}
 use native.Mathlib.Omega.{arith}

@@ -1,4 +1,4 @@
--- `tables::check_contents` meets its contract: each check's answer is the chain's where it refuses, and hands on to the next where it
+-- `validation::check_contents` meets its contract: each check's answer is the chain's where it refuses, and hands on to the next where it
 -- does not. What the first gave bounds the number of nodes. Assumes nothing.
 use Prim.Native.Nat.{ℕ, _≤_}
 use mathlib.Core.Path.{_≡_}

@@ -1,4 +1,4 @@
--- `tables::check_stream` meets its contract: the test is the definition's, at the stream's place in the tables. Assumes nothing.
+-- `validation::check_stream` meets its contract: the test is the definition's, at the stream's place in the tables. Assumes nothing.
 use Prim.Native.Nat.{pred, _+_}
 use mathlib.Core.Path.{_≡_}
 use native.Mathlib.Omega.{arith}

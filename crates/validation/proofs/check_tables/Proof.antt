@@ -1,4 +1,4 @@
--- `tables::check_tables` meets its contract: each part's answer is the chain's where it refuses, and hands on to the next where it
+-- `validation::check_tables` meets its contract: each part's answer is the chain's where it refuses, and hands on to the next where it
 -- does not. Assumes nothing.
 use native.Mathlib.Omega.{arith}
 use Rattle.model.proofs.Sheet.Refusals.{refused, passed}

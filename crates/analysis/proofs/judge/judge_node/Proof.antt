@@ -11,7 +11,7 @@ use lib.ListN.{length, take, length-set}
 use Rattle.model.specs.Refusal.{firstOf}
 use Rattle.model.specs.Answers.{nodeLateRefusal, nodeLateWith, waitsFrom}
 use Rattle.model.proofs.Sheet.Refusals.{rest, rest-start, rest-on, rest-stop, rest-end}
-use Rattle.analysis.proofs.Filling.{fill-one, fill-end}
+use Rattle.theory.proofs.Filling.{fill-one, fill-end}
 use Rattle.model.proofs.Answers.ListedWaits.{late-refused, listed-accepted, lateAt, waitsLeft, waits-all, waits-next, waits-none}
 use Rattle.analysis.proofs.judge.judge_node.Statement.{statement}
 use Rattle.analysis.proofs.judge.judge_node.Tie as tie

@@ -11,7 +11,7 @@ use Rattle.model.specs.Refusal.{firstOf}
 use Rattle.model.specs.Sheet.{nodes, streamCount, streamsUpTo}
 use Rattle.model.specs.Answers.{nodeLateRefusal}
 use Rattle.model.proofs.Sheet.Refusals.{rest, rest-start, rest-on, rest-stop, rest-end}
-use Rattle.analysis.proofs.Filling.{fill-part, fill-end}
+use Rattle.theory.proofs.Filling.{fill-part, fill-end}
 use Rattle.theory.proofs.Overwriting.{lent-length}
 use Rattle.theory.proofs.Sums.{sumTo-none}
 use Rattle.model.proofs.Sheet.NodeSums.{streams-next, streams-room}

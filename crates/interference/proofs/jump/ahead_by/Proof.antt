@@ -1,4 +1,4 @@
--- `wait::jump::ahead_by` meets its contract: the quotient is at most a message, as the jitter is below the period. Assumes nothing.
+-- `interference::jump::ahead_by` meets its contract: the quotient is at most a message, as the jitter is below the period. Assumes nothing.
 use Prim.Native.Nat.{_+_, _*_, _/_, _<_}
 use mathlib.Core.Path.{sym, ap, ap₂, _∙_}
 use native.Mathlib.Nat.{div-lt-iff-lt-mul}

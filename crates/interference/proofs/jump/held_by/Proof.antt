@@ -1,4 +1,4 @@
--- `wait::jump::held_by` meets its contract: what is held is at most a message a tick. Assumes nothing.
+-- `interference::jump::held_by` meets its contract: what is held is at most a message a tick. Assumes nothing.
 use Prim.Native.Nat.{_+_}
 use mathlib.Core.Path.{sym, _∙_}
 use native.Mathlib.Nat.{div-le-self}

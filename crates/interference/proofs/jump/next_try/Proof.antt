@@ -1,4 +1,4 @@
--- `wait::jump::next_try` meets its contract: the plain jump goes on by one at least, and no jump passes a number that suffices.
+-- `interference::jump::next_try` meets its contract: the plain jump goes on by one at least, and no jump passes a number that suffices.
 -- Assumes nothing.
 use Prim.Native.Nat.{_/_, _+_, _-_, _*_, _≤_, _<_}
 use native.Mathlib.Nat.{mul-le-mul, div-le-self, le-div-iff-mul-le}

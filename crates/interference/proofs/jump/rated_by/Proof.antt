@@ -1,4 +1,4 @@
--- `wait::jump::rated_by` meets its contract: the quotient is at most the cycle's. Assumes nothing.
+-- `interference::jump::rated_by` meets its contract: the quotient is at most the cycle's. Assumes nothing.
 use Prim.Native.Nat.{_*_, _/_}
 use mathlib.Core.Path.{sym, ap₂, _∙_}
 use native.Mathlib.Nat.{div-le-self}

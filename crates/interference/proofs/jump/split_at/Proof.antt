@@ -1,4 +1,4 @@
--- `wait::jump::split_at` meets its contract: each sum so far is that over the streams so far. Assumes nothing.
+-- `interference::jump::split_at` meets its contract: each sum so far is that over the streams so far. Assumes nothing.
 use Prim.Native.Nat.{_≤_, _-_, _+_, _*_}
 use mathlib.Core.Path.{_≡_, sym, ap, ap₂, _∙_}
 use native.Mathlib.Omega.{arith}

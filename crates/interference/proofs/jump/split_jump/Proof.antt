@@ -1,4 +1,4 @@
--- `wait::jump::split_jump` meets its contract: the split at the reach bounds the interference from below. Assumes nothing.
+-- `interference::jump::split_jump` meets its contract: the split at the reach bounds the interference from below. Assumes nothing.
 use Prim.Native.Nat.{_+_, _-_, _*_, _≤_}
 use native.Mathlib.Nat.{div-le-self, one-le-mul}
 use mathlib.Core.Path.{ap, _∙_}

@@ -3,8 +3,8 @@
 use borrow.Author.Needs.{needs}
 use borrow.Author.Tests.{eq-eqb, ne-eqb}
 use Rattle.model.specs.Limits.{notBegun}
-use Rattle.report.specs.Text.{beginText}
-use Rattle.report.proofs.Putting.{then}
+use Rattle.texts.specs.Text.{beginText}
+use Rattle.digits.proofs.Putting.{then}
 use Rattle.report.proofs.begins.put_begin.Statement.{statement}
 use Rattle.report.proofs.begins.put_begin.Tie as tie
 

@@ -1,8 +1,8 @@
 -- `report::begins::put_begins` meets its contract: the head, the lines, and the parts of the line under them.
 -- Assumes nothing.
 use borrow.Author.Needs.{needs}
-use Rattle.report.specs.Text.{beginTable}
-use Rattle.report.proofs.Putting.{then}
+use Rattle.texts.specs.Text.{beginTable}
+use Rattle.digits.proofs.Putting.{then}
 use Rattle.report.proofs.begins.put_begins.Statement.{statement}
 use Rattle.report.proofs.begins.put_begins.Tie as tie
 

@@ -4,10 +4,10 @@ use Prim.Native.Nat.{_≤_, _-_}
 use native.Mathlib.Omega.{arith}
 use mathlib.Core.Path.{_≡_}
 use borrow.Author.Needs.{needs}
-use Rattle.report.specs.Put.{Put}
-use Rattle.report.specs.Text.{linesTo, beginLine}
-use Rattle.report.proofs.Putting.{nothing, then, same-size}
-use Rattle.report.proofs.Lines.{next-line, begin-line}
+use Rattle.digits.specs.Put.{Put}
+use Rattle.texts.specs.Text.{linesTo, beginLine}
+use Rattle.digits.proofs.Putting.{nothing, then, same-size}
+use Rattle.texts.proofs.Lines.{next-line, begin-line}
 use Rattle.report.proofs.begins.put_releases.Statement.{statement}
 use Rattle.report.proofs.begins.put_releases.Tie as tie
 

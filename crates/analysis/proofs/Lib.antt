@@ -1,5 +1,0 @@
--- Laws that the proofs of the analysis share, one subject a file, in the order in which they build on each other.
-pub mod Filling
-pub mod InRange
-pub mod Periods
-pub mod Above

@@ -1,3 +1,0 @@
--- What the contracts of the analysis cite beside document 01's definitions.
-pub mod Periods
-pub mod Body

@@ -1,0 +1,3 @@
+-- What bytes and numbers put into a lent buffer are made of.
+pub mod Decimal
+pub mod Put

@@ -1,0 +1,3 @@
+-- Laws that the proofs of one turn with its trace cite, one subject a file.
+pub mod Listing
+pub mod TurnFits

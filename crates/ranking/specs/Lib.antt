@@ -1,0 +1,2 @@
+-- What the contracts of a node's streams in rank order cite beside document 01's definitions.
+pub mod Ranking
