@@ -23,11 +23,12 @@ pub record AsOnA (t : List ℕ) : Type 0 where
 abbrev A : List ℕ
 A = sheetA 40 38 38
 
-pub on-a : AsOnA A
+-- Its own answers, and that on node 2's stream.
+on-a : AsOnA A × (oneStreamAnswer A 2 1 ≡ success 16 1)
 unfolding
     sum upTo refuseIf _orElse_ firstOf outside cycle ticksOutside countsOutside timesOutside rowWrong rowRefusal streamRefusal bodyRefusal headerRefusal sheetRefusal
     streamsFrom outranks above mostReleases interference waitFor search verdict verdictWith unknownRefusal verdictAnswer oneStreamAnswer sheetA
-on-a = record { listed = refl; late = refl; noThird = refl }
+on-a = (record { listed = refl; late = refl; noThird = refl }, refl)
 
 valid-a : Valid A
 unfolding
@@ -38,9 +39,9 @@ valid-a = refl
 as-a : (t : List ℕ) → SameAnswers A t 1 → AsOnA t
 as-a t same =
     record {
-      listed = rw (← same 1) (on-a .listed);
-      late = rw (← same 2) (on-a .late);
-      noThird = rw (← same 3) (on-a .noThird);
+      listed = rw (← same 1) (on-a .0 .listed);
+      late = rw (← same 2) (on-a .0 .late);
+      noThird = rw (← same 3) (on-a .0 .noThird);
     }
 
 -- Every valid sheet that is alike for node 1 gives them, whatever node 2 has;
@@ -82,3 +83,16 @@ crowded-as-a = alike-a crowded (with-crowded .0) (with-crowded .1)
 
 pub empty-as-a : AsOnA empty
 empty-as-a = alike-a empty (with-empty .0) (with-empty .1)
+
+-- A sheet whose node 1 has no streams, so that node 2's body stands elsewhere than on A: its stream waits as there.
+abbrev moved : List ℕ
+moved = 2 ∷ 5 ∷ 1 ∷ 9 ∷ 0 ∷ 1 ∷ 9 ∷ 1 ∷ 2 ∷ 30 ∷ 30 ∷ 0 ∷ []
+
+with-moved : Valid moved × Alike A moved 2
+unfolding
+    sum upTo refuseIf _orElse_ firstOf outside ticksOutside countsOutside timesOutside rowWrong rowRefusal streamRefusal bodyRefusal headerRefusal sheetRefusal
+    streamsFrom sheetA
+with-moved = (refl, record { sameNodes = refl; sameMessage = refl; sameSlot = refl; sameBudgets = two-budgets moved refl refl; sameStreams = refl })
+
+pub moved-as-a : oneStreamAnswer moved 2 1 ≡ success 16 1
+moved-as-a = rw (← independence A moved 2 valid-a (with-moved .0) (with-moved .1) 1) (on-a .1)
