@@ -58,7 +58,7 @@ module _ (s : List ℕ) (e : Edit) (fits : SheetFits s) (on : OnSheet s (e .node
   contents : (i : ℕ) → i < contentsWords s → word t i ≡ word s i
   contents i low = over-before s at values there i (omega (arith, low, stands (e .node) (e .stream) on))
 
-  same-nodes : nodes t ≡ nodes s
+  pub same-nodes : nodes t ≡ nodes s
   same-nodes = contents 0 (omega arith)
 
   same-message : messageTicks t ≡ messageTicks s
@@ -161,9 +161,6 @@ module _ (s : List ℕ) (e : Edit) (fits : SheetFits s) (on : OnSheet s (e .node
         sameBudgets = λ i from to. sym (same-budget i from to);
         sameStreams = sym streams;
       }
-
-  pub nodes-kept : nodes s ≡ nodes t
-  nodes-kept = sym same-nodes
 
   module _ (ranged : timesOutside (e .period) (e .deadline) (e .jitter) ≡ false) where
     header : HeaderFits t

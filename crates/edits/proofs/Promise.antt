@@ -21,7 +21,7 @@ use Rattle.model.proofs.Sheet.Refusals.{orElse-both, orElse-stop, refuseIf-none
 use Rattle.model.proofs.Sheet.ValidSheet.{SheetFits, valid-fits}
 use Rattle.edits.specs.Edit.{Edit, edited, otherNodeRefusal, newWordsRefusal, editAnswer, editSheet, OthersKept}
 use Rattle.edits.proofs.Independence.{answered, independence}
-use Rattle.edits.proofs.EditedSheet.{there, nodes-kept, others-alike, edited-valid}
+use Rattle.edits.proofs.EditedSheet.{there, same-nodes, others-alike, edited-valid}
 
 -- A refusal changes no word,
 pub edit-refused : (s : List ℕ) (e : Edit) → (editAnswer s e .number ≡ 0 → ⊥) → s ≡ editSheet s e
@@ -84,7 +84,7 @@ module _ (s : List ℕ) (e : Edit) where
       go : (b : Bool) → outside 1 (nodes s) k ≡ b → oneStreamAnswer s k j ≡ oneStreamAnswer (edited s e) k j
       go true out =
           no-node s k j (p .valid) out
-          ∙ sym (no-node (edited s e) k j (after-valid p) (ap (λ n. outside 1 n k) (sym (nodes-kept s e fits (p .on))) ∙ out))
+          ∙ sym (no-node (edited s e) k j (after-valid p) (ap (λ n. outside 1 n k) (same-nodes s e fits (p .on)) ∙ out))
       go false isIn =
           let both = within 1 (nodes s) k isIn in
           independence s (edited s e) k (p .valid) (after-valid p)
