@@ -1,5 +1,7 @@
 // The admit program: reads a sheet from standard input and writes the table of listed waits, or the refusal. What it writes is given by
 // a definition, up to the call that writes it.
+#![tactic(auto)]
+
 ghost use Rattle.std.specs.Prelude.{◌≡◌, length, take};
 ghost use Rattle.model.specs.Limits.{longest_sheet};
 ghost use Rattle.io.specs.Counts.{IsPrefixLen};

@@ -1,4 +1,6 @@
 // The analysis: the listed wait of one stream, and the admission of a whole sheet.
+#![tactic(auto)]
+
 ghost use Rattle.std.specs.Prelude.{◌≡◌, ◌≤◌, length};
 ghost use Rattle.model.specs.Sheet.{total_streams, OnSheet, Valid};
 ghost use Rattle.model.specs.Answers.{verdict_answer, one_stream_answer, admit_answer, admit_buffer};

@@ -1,4 +1,6 @@
 // A stream that is asked for by its node and its number: what is refused before anything is done with it.
+#![tactic(auto)]
+
 ghost use Rattle.std.specs.Prelude.{◌≡◌, ◌||◌};
 ghost use Rattle.model.specs.Refusal.{outside, ◌or_else◌};
 ghost use Rattle.model.specs.Sheet.{nodes, stream_count, sheet_refusal};

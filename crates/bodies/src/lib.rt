@@ -1,5 +1,7 @@
 // The streams of a sheet: where one stands in its node's body, and its words, over any words; 0 past the end, as the definitions do. None but
 // one, for a valid sheet, asks anything of its caller.
+#![tactic(auto)]
+
 ghost use Rattle.std.specs.Prelude.{◌≡◌, pred, ◌+◌, ◌*◌, ◌≤◌, ◌<◌, ◌^◌, length};
 ghost use Rattle.model.specs.Limits.{stream_words};
 ghost use Rattle.model.specs.Analysis.{stream_in, stream_of};

@@ -1,5 +1,7 @@
 // "Find the budgets": the smallest workable budgets of a line, in rounds. A row of budgets is an array by value, which is copied before each
 // round.
+#![tactic(auto)]
+
 ghost use Rattle.std.specs.Prelude.{◌≡◌, not, ◌&&◌, ◌≤◌, eqb, length};
 ghost use Rattle.model.specs.Limits.{max_nodes};
 ghost use Rattle.model.specs.Sheet.{Valid};

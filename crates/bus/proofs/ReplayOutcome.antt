@@ -16,7 +16,7 @@ use Rattle.model.proofs.Answers.NotRefused.{ReplayAccepted, replay_accepted, rep
 use Rattle.model.proofs.Protocol.Run.{replayed-length}
 use Rattle.model.proofs.Demand.ReplayDemand.{replay_demand}
 use Rattle.model.specs.Demand.{WholeReplay}
-use Rattle.log.specs.Replay.{replay_refusal}
+use Rattle.logs.specs.Replay.{replay_refusal}
 
 -- What the replay answers and writes.
 pub record ReplayOutcome (s log : List ℕ) (horizon : ℕ) (room : List ℕ) (answer : Answer) (buffer : List ℕ) : Type 0 where

@@ -1,16 +1,18 @@
 // The bus: one step with the record by value, and the replay.
+#![tactic(auto)]
+
 ghost use Rattle.std.specs.Prelude.{◌≡◌, length};
 ghost use Rattle.model.specs.Demand.{WholeReplay};
 ghost use Rattle.model.specs.Answers.{step_answer, step_bus, step_buffer, replay_answer, replay_buffer};
 
-use log::{check_replay, check_step};
+use logs::{check_replay, check_step};
 use model::{Answer, Bus};
 use queue::{arrived_by, next_unbegun};
 use runs::run_to;
 use turns::{clear, header_of, next_bus, run_turn};
 
 // What one step answers, and the bus record after it.
-#[derive(Drop)]
+#[derive(Clone, Copy)]
 pub struct Turned {
     pub answer: Answer,
     pub bus: Bus,

@@ -1,4 +1,6 @@
 // The contents of a sheet are checked: refusals 1 to 4 of its header and its rows, for any words.
+#![tactic(auto)]
+
 ghost use Rattle.std.specs.Prelude.{◌≡◌, ◌≤◌};
 ghost use Rattle.model.specs.Limits.{max_nodes};
 ghost use Rattle.model.specs.Refusal.{outside, first_of};

@@ -1,4 +1,6 @@
 // Texts put into a lent buffer, one after the other. Each function answers the place after what it put; what does not fit is left out.
+#![tactic(auto)]
+
 ghost use Rattle.std.specs.Prelude.{◌≡◌, [], ◌∷◌, ◌++◌, ◌<◌, min};
 ghost use Rattle.digits.specs.Decimal.{digit, decimal};
 ghost use Rattle.digits.specs.Put.{Put};

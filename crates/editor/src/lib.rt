@@ -1,5 +1,7 @@
 // The edit: three words of one stream, set on a sheet that is lent for writing. What it answers and leaves is given by the definitions of the
 // crate `edits`.
+#![tactic(auto)]
+
 ghost use Rattle.std.specs.Prelude.{◌≡◌};
 ghost use Rattle.model.specs.Sheet.{Valid};
 ghost use Rattle.edits.specs.Edit.{edit_of, edit_answer, edit_sheet, OthersKept};

@@ -1,4 +1,6 @@
 // The record of a replay by pieces as a table of words, as a program of another language hands it in and gets it back.
+#![tactic(auto)]
+
 ghost use Rattle.std.specs.Prelude.{◌≡◌, ◌+◌, ◌≤◌, length, take, drop};
 ghost use Rattle.theory.specs.Listing.{replaced_at};
 ghost use Rattle.model.specs.Limits.{max_waiting};

@@ -1,4 +1,6 @@
 // What lent tables of nodes have for a node, and their sums; refusal 4 of a row of counts and budgets, and the tests of a table's length.
+#![tactic(auto)]
+
 ghost use Rattle.std.specs.Prelude.{◌≡◌};
 ghost use Rattle.model.specs.Limits.{max_nodes};
 ghost use Rattle.model.specs.Refusal.{outside, first_of};

@@ -1,5 +1,7 @@
 // Words put into the first words of a lent part; a part that is too short for them stays as it is. What is put there is a sheet's
 // header, a contents row or a stream; layout's accessors read the same words.
+#![tactic(auto)]
+
 ghost use Rattle.std.specs.Prelude.{◌≡◌, [], ◌∷◌};
 ghost use Rattle.theory.specs.Listing.{put_front};
 

@@ -1,4 +1,6 @@
 // Bytes to words, for the programs. The library itself takes words.
+#![tactic(auto)]
+
 ghost use Rattle.std.specs.Prelude.{◌≡◌, ◌+◌, ◌*◌, ◌%◌, ◌≤◌, ◌<◌, ◌++◌, length, take, drop};
 ghost use Rattle.model.specs.Limits.{longest_sheet, longest_replay_input};
 ghost use Rattle.model.specs.Sheet.{Valid};

@@ -65,7 +65,7 @@ fn ahead_by(period: u32, jitter: u32, reach: u32) -> u64
 
 // The split of streams at a reach: what those past it count with together, and of those within it the rates, and what they are ahead of
 // them.
-#[derive(Drop)]
+#[derive(Clone, Copy)]
 struct Split {
     held: u64,
     ahead: u64,

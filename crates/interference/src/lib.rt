@@ -1,5 +1,7 @@
 // Interference: what the streams above can release in a window, by their least periods and jitters; and how far the search for J may jump by it.
 // Nothing here knows a sheet or a deadline.
+#![tactic(auto)]
+
 ghost use Rattle.std.specs.Prelude.{◌≡◌, ◌^◌, ◌≤◌, ◌<◌};
 ghost use Rattle.model.specs.Limits.{max_time};
 ghost use Rattle.model.specs.Analysis.{most_releases};

@@ -1,5 +1,7 @@
 // Where the words of a sheet stand: accessors over any words, which read 0 past the end, as the definitions do. None asks anything of its
 // caller. Only this crate, `bodies` and `fill`, which puts the words there, know how many words a row or a stream has.
+#![tactic(auto)]
+
 ghost use Rattle.std.specs.Prelude.{◌≡◌, ◌*◌, ◌/◌, ◌<◌, ◌^◌};
 ghost use Rattle.model.specs.Limits.{stream_words};
 ghost use Rattle.model.specs.Sheet.{word, row_at, place, stream_count, budget, streams_up_to, first_body_at, contents_words};
@@ -48,7 +50,7 @@ pub fn budget_of(sheet: &[u32], k: u32) -> u32
 }
 
 // A contents row: where the node's body stands, how many streams it has, and its budget.
-#[derive(Drop)]
+#[derive(Clone, Copy)]
 pub struct Row {
     pub place: u32,
     pub streams: u32,

@@ -1,4 +1,6 @@
 // The listed waits of all streams of a sheet, as numbers that every wait can be compared with.
+#![tactic(auto)]
+
 ghost use Rattle.std.specs.Prelude.{◌≡◌, ◌++◌, ◌+◌, ◌-◌, ◌*◌, ◌≤◌, length, drop};
 ghost use Rattle.theory.specs.Listing.{values_from};
 ghost use Rattle.model.specs.Sheet.{nodes, cycle as full_cycle, stream_count, total_streams, in_sheet_order, Valid};
@@ -27,7 +29,7 @@ fn limit_of(verdict: Verdict) -> u32
 }
 
 // Interference of streams in one full cycle and in two.
-#[derive(Drop)]
+#[derive(Clone, Copy)]
 struct Sums {
     one: u64,
     two: u64,

@@ -1,4 +1,6 @@
 // The table of an admitted sheet.
+#![tactic(auto)]
+
 ghost use Rattle.std.specs.Prelude.{◌≡◌, ◌+◌, ◌≤◌, ◌^◌};
 ghost use Rattle.model.specs.Sheet.{nodes, streams_before};
 ghost use Rattle.digits.specs.Put.{Put};

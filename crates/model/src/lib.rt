@@ -1,9 +1,10 @@
 // What the planner speaks of: streams, answers and the bus record, and in specs/ what document 01 says of them. There is no code
 // here: the definitions in specs/ and the laws in proofs/ are what the other crates cite.
+#![tactic(auto)]
 
 // An answer: document 01's three numbers. Number 0 is success; any other is a refusal, and the two after it are its place.
 #[repr(C)]
-#[derive(Drop)]
+#[derive(Clone, Copy)]
 pub struct Answer {
     pub number: u32,
     pub second: u32,
@@ -12,7 +13,7 @@ pub struct Answer {
 
 // Document 01's "bus record": the tick at which the turn of a node starts, and how many turns have gone before it.
 #[repr(C)]
-#[derive(Drop)]
+#[derive(Clone, Copy)]
 pub struct Bus {
     pub tick: u32,
     pub node: u32,
@@ -22,7 +23,7 @@ pub struct Bus {
 // Document 02's "stream record": how many messages of a stream have begun, the longest wait of one of them, and how many waited longer
 // than the listed wait.
 #[repr(C)]
-#[derive(Drop)]
+#[derive(Clone, Copy)]
 pub struct StreamRecord {
     pub begun: u32,
     pub longest: u32,
@@ -30,14 +31,14 @@ pub struct StreamRecord {
 }
 
 // What the analysis finds of one stream: it is "late", or it has a "listed wait", found at J full cycles.
-#[derive(Drop)]
+#[derive(Clone, Copy)]
 pub enum Verdict {
     Late,
     Listed { wait: u32, cycles: u32 },
 }
 
 // A message stream of a node: its number there, its "least period", its "deadline" and its "jitter".
-#[derive(Drop)]
+#[derive(Clone, Copy)]
 pub struct Stream {
     pub number: u32,
     pub period: u32,
@@ -47,7 +48,7 @@ pub struct Stream {
 
 // What a wait and the late test go by beside the streams above: the full cycle, "C"; the node's budget, "m"; and the ticks of a message and of a
 // protocol slot, "TMS" and "TPR".
-#[derive(Drop)]
+#[derive(Clone, Copy)]
 pub struct Timing {
     pub cycle: u32,
     pub budget: u32,

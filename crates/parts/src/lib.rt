@@ -1,4 +1,6 @@
 // The parts of a sheet in the buffer: contents rows and bodies, each from its place on.
+#![tactic(auto)]
+
 ghost use Rattle.std.specs.Prelude.{◌≡◌, ◌++◌, ◌+◌, ◌*◌, ◌≤◌, ◌<◌, ◌^◌, length, drop};
 ghost use Rattle.theory.specs.Listing.{joined_from, replaced_at};
 ghost use Rattle.model.specs.Limits.{header_words, stream_words, max_nodes, max_streams};

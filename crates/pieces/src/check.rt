@@ -11,7 +11,7 @@ use range::refuse_if;
 fn check_checkpoint(sheet: &[u32], c: Checkpoint) -> Answer
     ensures { result ≡ checkpoint_refusal sheet.now c }
 {
-    let turn = refuse_if(log::record_is_wrong(sheet, c.bus), 16, 0, 0);
+    let turn = refuse_if(logs::record_is_wrong(sheet, c.bus), 16, 0, 0);
     if turn.number != 0 {
         return turn;
     }
@@ -40,7 +40,7 @@ pub fn check_resume(
     if record.number != 0 {
         return record;
     }
-    let releases = log::check_piece(sheet, piece, c.releases, c.horizon, horizon);
+    let releases = logs::check_piece(sheet, piece, c.releases, c.horizon, horizon);
     if releases.number != 0 {
         return releases;
     }

@@ -1,5 +1,7 @@
 // The replay by pieces (document 02, "Feed the replay as the day goes"): the record of a replay goes in with a piece of the log and a new
 // horizon, and is handed back by value.
+#![tactic(auto)]
+
 ghost use Rattle.std.specs.Prelude.{◌≡◌, ◌*◌, ◌≤◌, ◌<◌, ◌++◌, length, drop};
 ghost use Rattle.model.specs.Limits.{release_words, max_time, max_waiting};
 ghost use Rattle.model.specs.Refusal.{success};
@@ -20,7 +22,7 @@ mod open; // open.rt: what a piece is run over
 // What a replay that is run piece by piece hands on from one piece to the next (document 02, "Seven": the "replay's record"): the horizon
 // that it has come to, the bus record of the next turn, the number of releases so far, and the messages that wait, as many as `waiting`
 // says. The message at place i is release `numbers[i]`, queued at `ticks[i]`, of the stream with running number `streams[i]`.
-#[derive(Drop)]
+#[derive(Clone, Copy)]
 pub struct Checkpoint {
     pub horizon: u32,
     pub bus: Bus,
@@ -32,7 +34,7 @@ pub struct Checkpoint {
 }
 
 // What a piece answers, and the record that it hands back.
-#[derive(Drop)]
+#[derive(Clone, Copy)]
 pub struct Resumed {
     pub answer: Answer,
     pub checkpoint: Checkpoint,

@@ -1,4 +1,6 @@
 // The waiting places of a replay by pieces, as tables of words: their checks, the log that they make, and the release numbers after them.
+#![tactic(auto)]
+
 ghost use Rattle.std.specs.Prelude.{◌≡◌, ◌||◌, suc, ◌+◌, ◌*◌, ◌≤◌, [], ◌∷◌, ◌++◌, ltb, length, drop};
 ghost use Rattle.theory.specs.Listing.{values_from, joined_from, replaced_at};
 ghost use Rattle.model.specs.Limits.{release_words, max_releases, max_time, max_waiting};

@@ -1,5 +1,7 @@
 // How far a run of the turns of a log has come, and one turn of it with its trace: release number and begin tick of each message in the order
 // begun.
+#![tactic(auto)]
+
 ghost use Rattle.std.specs.Prelude.{◌≡◌, ◌+◌, ◌*◌, ◌≤◌, length, take};
 ghost use Rattle.theory.specs.Listing.{replaced_at};
 ghost use Rattle.model.specs.Limits.{release_words, max_time, max_budget, max_slot_ticks};
@@ -14,7 +16,7 @@ use turns::Header;
 
 // How far a run has come: the record of its next turn; the first release that has not begun; a number of releases that has all those due
 // among it; and how many have begun.
-#[derive(Drop)]
+#[derive(Clone, Copy)]
 pub struct Progress {
     pub bus: Bus,
     pub from: usize,

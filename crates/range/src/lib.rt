@@ -1,4 +1,6 @@
 // The range tests of a sheet's numbers, for its reader and its writer, and a check's refusal. None asks anything of its caller.
+#![tactic(auto)]
+
 ghost use Rattle.std.specs.Prelude.{◌≡◌};
 ghost use Rattle.model.specs.Refusal.{refuse, refuse_if, outside};
 ghost use Rattle.model.specs.Sheet.{ticks_outside, counts_outside, times_outside};

@@ -1,4 +1,6 @@
 // Priority, "rank": who of a node's streams is ranked above whom. The analysis and the queue of a turn both ask here.
+#![tactic(auto)]
+
 ghost use Rattle.std.specs.Prelude.{◌≡◌};
 ghost use Rattle.model.specs.Analysis.{outranks};
 

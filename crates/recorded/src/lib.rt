@@ -1,4 +1,6 @@
 // The run of turns to a horizon that keeps a record of each stream beside the begin ticks, on input that has been checked.
+#![tactic(auto)]
+
 ghost use Rattle.std.specs.Prelude.{◌≡◌, ◌++◌, ◌≤◌, length, take, drop, replicate};
 ghost use Rattle.model.specs.Limits.{max_time, max_budget, not_begun};
 ghost use Rattle.model.specs.Sheet.{Valid};

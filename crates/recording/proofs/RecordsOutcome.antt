@@ -26,7 +26,7 @@ use Rattle.model.proofs.Demand.ReplayDemand.{replay_demand}
 use Rattle.model.proofs.Records.Listed.{records_length, records_cleared, records_before}
 use Rattle.model.proofs.Records.NoneOver.{none_over}
 use Rattle.model.proofs.Trace.Faultless.{log_fits}
-use Rattle.log.specs.Replay.{replay_refusal}
+use Rattle.logs.specs.Replay.{replay_refusal}
 use Rattle.queue.specs.Queue.{Rising}
 use Rattle.bus.proofs.AcceptedLog.{log_rises}
 use Rattle.bus.proofs.ReplayOutcome.{replay_checked, replay_refused}

@@ -4,7 +4,7 @@ use Rattle.model.specs.declared.Answer.{Answer}
 use Rattle.model.specs.Refusal.{◌or_else◌}
 use Rattle.model.specs.Sheet.{total_streams}
 use Rattle.model.specs.Answers.{room_refusal}
-use Rattle.log.specs.Replay.{replay_refusal}
+use Rattle.logs.specs.Replay.{replay_refusal}
 
 -- The refusals of the replay with a buffer of so many words and a list of so many records: those of the replay, then 6.
 unfoldable pub records_refusal : List ℕ → List ℕ → ℕ → ℕ → ℕ → Answer

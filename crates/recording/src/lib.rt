@@ -1,4 +1,6 @@
 // The replay that keeps a record of each stream beside the begin ticks.
+#![tactic(auto)]
+
 ghost use Rattle.std.specs.Prelude.{◌≡◌, ◌++◌, ◌≤◌, length, drop, replicate};
 ghost use Rattle.model.specs.Limits.{not_begun};
 ghost use Rattle.model.specs.Sheet.{total_streams, Valid};
@@ -22,7 +24,7 @@ fn count_streams(sheet: &[u32]) -> usize
 fn check_lent(sheet: &[u32], log: &[u32], horizon: u32, room: usize, list: usize) -> Answer
     ensures { result ≡ records_refusal sheet.now log.now horizon room list }
 {
-    let refusal = log::check_replay(sheet, log, horizon, room);
+    let refusal = logs::check_replay(sheet, log, horizon, room);
     if refusal.number != 0 {
         return refusal;
     }

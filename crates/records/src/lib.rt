@@ -1,4 +1,6 @@
 // A lent list of stream records, and what a message that begins changes in it.
+#![tactic(auto)]
+
 ghost use Rattle.std.specs.Prelude.{◌≡◌, ◌++◌, ◌+◌, ◌*◌, ◌≤◌, ◌<◌, length, take, drop, replicate};
 ghost use Rattle.theory.specs.Count.{larger as largerOf};
 ghost use Rattle.model.specs.Limits.{max_time, max_budget, max_releases, max_slot_ticks};
@@ -10,7 +12,7 @@ ghost use Rattle.records.specs.Noting.{noted_with, noted_in, note_as, noted_from
 use model::StreamRecord;
 
 // What is noted of a message that begins: the place of its stream's record, its wait, and the limit above which the wait is counted.
-#[derive(Drop)]
+#[derive(Clone, Copy)]
 pub struct Note {
     pub at: usize,
     pub wait: u32,

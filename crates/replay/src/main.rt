@@ -1,5 +1,7 @@
 // The replay program: reads a sheet from the file that its first argument names, and a horizon and then a log from the second, and
 // writes the begin tick of each release, or the refusal. What it writes is given by a definition, up to the call that writes it.
+#![tactic(auto)]
+
 ghost use Rattle.std.specs.Prelude.{◌≡◌, ◌*◌, ◌≤◌, length, take};
 ghost use Rattle.model.specs.Limits.{release_words, max_releases, longest_sheet, longest_replay_input};
 ghost use Rattle.io.specs.Counts.{IsPrefixLen};

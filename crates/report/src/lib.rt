@@ -1,5 +1,7 @@
 // What the programs write, put into a lent buffer: every byte of it is given by a definition. The programs hand the buffer on to the
 // system in one call.
+#![tactic(auto)]
+
 ghost use Rattle.std.specs.Prelude.{◌≡◌, ◌≤◌, length, take};
 ghost use Rattle.model.specs.Limits.{max_releases};
 ghost use Rattle.model.specs.Sheet.{Valid};

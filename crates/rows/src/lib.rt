@@ -1,5 +1,7 @@
 // One round of "Find the budgets": a row of budgets, its sum and its full cycle, and what a round makes of it. A row is an array by value: a
 // round judges by the copy that it is handed, while it raises the row that it is lent.
+#![tactic(auto)]
+
 ghost use Rattle.std.specs.Prelude.{◌≡◌, cond, not, ◌&&◌, ◌||◌, suc, ◌≤◌, eqb, leb};
 ghost use Rattle.model.specs.Limits.{max_budget};
 ghost use Rattle.model.specs.Sheet.{nodes, Valid};
@@ -93,7 +95,7 @@ fn either(a: bool, b: bool) -> bool
 }
 
 // What a round finds: the node that refusal 11 names, 0 where none is, and whether a stream is late.
-#[derive(Drop)]
+#[derive(Clone, Copy)]
 pub struct Round {
     pub stuck: u32,
     pub late: bool,

@@ -1,4 +1,6 @@
 // The run of turns to a horizon, on input that has been checked.
+#![tactic(auto)]
+
 ghost use Rattle.std.specs.Prelude.{◌≡◌, ◌+◌, ◌≤◌, ◌++◌, length, take, drop, replicate};
 ghost use Rattle.model.specs.Limits.{max_time, max_budget, not_begun};
 ghost use Rattle.model.specs.Sheet.{Valid};
@@ -13,7 +15,7 @@ use turns::{Header, header_of, next_bus, next_event, pass_idle, run_turn};
 
 // How far a run has come: the record of its next turn; the first release that has not begun; and a number of releases that has all those due
 // among it.
-#[derive(Drop)]
+#[derive(Clone, Copy)]
 pub struct Position {
     pub bus: Bus,
     pub from: usize,

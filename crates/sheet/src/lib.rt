@@ -1,4 +1,6 @@
 // The sheet reader: refusals 1 to 5 with their places, for any words.
+#![tactic(auto)]
+
 ghost use Rattle.std.specs.Prelude.{◌≡◌};
 ghost use Rattle.model.specs.Refusal.{first_of};
 ghost use Rattle.model.specs.Sheet.{stream_refusal, body_refusal, sheet_refusal};

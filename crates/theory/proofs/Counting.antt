@@ -125,10 +125,10 @@ pub count_places : {P : ℕ → Type 0} (P? : (i : ℕ) → Dec (P i)) (At : ℕ
     ((p q i : ℕ) → p < q → At p i → At q i → ⊥) →
     k ≤ count P? n
 unfolding Others
-count_places P? At n zero each once = omega arith
-count_places {P} P? At n (suc k) each once =
+count_places {P = P} P? At n zero each once = omega arith
+count_places {P = P} P? At n (suc k) each once =
     let w : (i : ℕ) × (i < n) × P i × At k i = each k (omega arith) in
-    let rest = count_places (others? P? w.0) At n k (λ p h. other w p h (each p (omega arith))) once in
+    let rest = count_places {P = Others P w.0} (others? P? w.0) At n k (λ p h. other w p h (each p (omega arith))) once in
     omega (arith, count_others P? n w.0 w.1 w.2)
   where
     other : (w : (i : ℕ) × (i < n) × P i × At k i) (p : ℕ) →

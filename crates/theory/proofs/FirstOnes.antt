@@ -106,16 +106,23 @@ pub taken_waits : {most : ℕ} {q : Queue} {taken : List ℕ} {p i : ℕ}
     → Taking most q taken
     → At taken p i
     → (i < q.size) × (q.waits i ≡ true)
+taken_waits {p = p} {i = i} (spent {q = q}) at = elim at [ ]
+taken_waits {p = p} {i = i} (emptied {most = most} {q = q} nobody) at = elim at [ ]
 taken_waits {q = q} (takes is_first there rest) here = (there, rw is_first (first_waits q (rw is_first at there)))
 taken_waits {q = q} (takes {i = x} is_first there rest) (later {x = i} a) =
     let h = taken_waits rest a in (h.0, (without_waits q x i h.1).0)
 
 -- Who is taken is taken once.
 pub taken_once : {most : ℕ} {q : Queue} {taken : List ℕ} {p r i : ℕ} → Taking most q taken → At taken p i → At taken r i → p ≡ r
-taken_once t here here = refl
-taken_once {q = q} (takes {i = i} is_first there rest) here (later a) = absurd ((without_waits q i i (taken_waits rest a).1).1 refl)
-taken_once {q = q} (takes {i = i} is_first there rest) (later a) here = absurd ((without_waits q i i (taken_waits rest a).1).1 refl)
-taken_once (takes is_first there rest) (later a) (later b) = ap suc (taken_once rest a b)
+taken_once t x y = same_place t x y refl
+  where
+    same_place : {most : ℕ} {q : Queue} {taken : List ℕ} {p r i j : ℕ} → Taking most q taken → At taken p i → At taken r j → i ≡ j → p ≡ r
+    same_place t here here e = refl
+    same_place {q = q} (takes {i = i} is_first there rest) here (later {x = j} a) e =
+        absurd ((without_waits q i j (taken_waits rest a).1).1 (sym e))
+    same_place {q = q} (takes {i = j} is_first there rest) (later {x = i} a) here e =
+        absurd ((without_waits q j i (taken_waits rest a).1).1 e)
+    same_place (takes {most = most} is_first there rest) (later a) (later b) e = ap suc (same_place {most = most} rest a b e)
 
 -- Where fewer are taken than may be, all who waited are.
 pub none_left : {most : ℕ} {q : Queue} {taken : List ℕ}
@@ -166,8 +173,8 @@ module _ {Member : ℕ → Type 0} where
       let v = without_waits q i b w.1 in
       leads q order members is_first there b w.0 v.0 v.1
   taken_in_order t order members p r a b h (later x) here = absurd (omega arith)
-  taken_in_order {q = q} (takes {i = i} is_first there rest) order members p r a b h (later {p = p'} x) (later {p = r'} y) =
-      taken_in_order rest order (λ n w. members n (without_waits q i n w).0) p' r' a b (omega arith) x y
+  taken_in_order {q = q} (takes {most = most} {i = i} is_first there rest) order members p r a b h (later {p = p'} x) (later {p = r'} y) =
+      taken_in_order {most = most} rest order (λ n w. members n (without_waits q i n w).0) p' r' a b (omega arith) x y
 
   -- Who is taken comes before who waits and is not taken.
   pub taken_ahead : {most : ℕ} {q : Queue} {taken : List ℕ}
@@ -180,6 +187,8 @@ module _ {Member : ℕ → Type 0} where
       → q.waits b ≡ true
       → ((r : ℕ) → At taken r b → ⊥)
       → q.before a b ≡ true
+  taken_ahead (spent {q = q}) order members p a b at h waits absent = elim at [ ]
+  taken_ahead (emptied {most = most} {q = q} nobody) order members p a b at h waits absent = elim at [ ]
   taken_ahead {q = q} (takes {taken = taken} is_first there rest) order members p a b here h waits absent =
       leads q order members is_first there b h waits (λ e. absent 0 (rw e here))
   taken_ahead {q = q} (takes {i = i} {taken = taken} is_first there rest) order members p a b (later {p = p'} x) h waits absent =

@@ -1,5 +1,7 @@
 // The run of the turns of a log from any record on, with its trace: release number and begin tick of each message in the order begun. The
 // first releases of the log may stand in any order of their ticks.
+#![tactic(auto)]
+
 ghost use Rattle.std.specs.Prelude.{◌≡◌, ◌⊎◌, ◌*◌, ◌≤◌, ◌<◌, ◌++◌, length, take, drop, replicate};
 ghost use Rattle.model.specs.Limits.{release_words, max_time, max_budget, not_begun};
 ghost use Rattle.model.specs.Protocol.{releases, none_begun, run};

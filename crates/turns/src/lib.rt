@@ -1,4 +1,6 @@
 // One turn, the record after it, and silent turns that are taken at once, on input that has been checked.
+#![tactic(auto)]
+
 ghost use Rattle.std.specs.Prelude.{◌≡◌, ◌+◌, ◌≤◌, ◌<◌, ◌++◌, length, take, drop, replicate};
 ghost use Rattle.model.specs.Limits.{max_time, max_budget, max_slot_ticks, not_begun};
 ghost use Rattle.model.specs.Sheet.{slot_ticks, budget};
@@ -11,7 +13,7 @@ use model::Bus;
 use queue::look;
 
 // The sheet's first three words, read once for the clock and the order of nodes: n, TMS and TPR.
-#[derive(Drop)]
+#[derive(Clone, Copy)]
 pub struct Header {
     pub nodes: u32,
     pub message: u32,

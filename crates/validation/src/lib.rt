@@ -1,4 +1,6 @@
 // The tables that a sheet is made from are checked: refusals 2 to 5, for any tables of any lengths.
+#![tactic(auto)]
+
 ghost use Rattle.std.specs.Prelude.{◌≡◌, ◌+◌, ◌≤◌, ◌<◌, ◌^◌};
 ghost use Rattle.model.specs.Refusal.{first_of};
 ghost use Rattle.tables.specs.Tables.{lent_tables};

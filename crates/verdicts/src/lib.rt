@@ -1,4 +1,6 @@
 // The verdict on one stream of a sheet, with a full cycle and a budget of its node that need not be the sheet's own.
+#![tactic(auto)]
+
 ghost use Rattle.std.specs.Prelude.{◌≡◌};
 ghost use Rattle.model.specs.Sheet.{cycle as full_cycle, OnSheet, Valid};
 ghost use Rattle.model.specs.Analysis.{timing_with, verdict_with, verdict_of};

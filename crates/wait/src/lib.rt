@@ -1,5 +1,7 @@
 // The listed wait by the least periods and jitters of the streams above and a node's timing: the search for J. Nothing here knows a
 // sheet.
+#![tactic(auto)]
+
 ghost use Rattle.std.specs.Prelude.{◌≡◌, ◌+◌, ◌-◌, ◌*◌, ◌≤◌};
 ghost use Rattle.model.specs.Limits.{max_time};
 ghost use Rattle.model.specs.Analysis.{wait_for, verdict, tries_worth};

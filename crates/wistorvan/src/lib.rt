@@ -1,5 +1,7 @@
 // The library for programs in C and Rust: the entries under their plain names, each with the contract of the function that it
 // calls. A lent table passes as a pointer to its words and then their number.
+#![tactic(auto)]
+
 ghost use Rattle.std.specs.Prelude.{◌≡◌, length, ◌≤◌};
 ghost use Rattle.model.specs.Limits.{max_nodes};
 ghost use Rattle.model.specs.Sheet.{total_streams, sheet_refusal, OnSheet, Valid};

@@ -1,4 +1,6 @@
 // The writer: a sheet made from tables in a lent buffer. What it answers and writes is given by the definitions of the crate `tables`.
+#![tactic(auto)]
+
 ghost use Rattle.std.specs.Prelude.{◌≡◌, ◌++◌, ◌*◌, ◌≤◌, length, drop};
 ghost use Rattle.tables.specs.Tables.{lent_tables, sum_of};
 ghost use Rattle.tables.specs.Writing.{cycle_of, contents_refusal, written, write_answer, write_buffer, ReadsBack, WrittenAgain};

@@ -7,7 +7,7 @@ use lib.ListN.{length, drop, replicate, length-replicate}
 use lib.Seq.{take_at, drop_at}
 use Rattle.model.specs.Limits.{not_begun}
 use Rattle.model.specs.Protocol.{releases}
-use Rattle.log.specs.Replay.{replay_refusal}
+use Rattle.logs.specs.Replay.{replay_refusal}
 use Rattle.model.proofs.Answers.NotRefused.{ReplayAccepted}
 use Rattle.bus.proofs.AcceptedLog.{log_rises}
 use Rattle.bus.proofs.ReplayOutcome.{replay_checked, replay_refused, replay_done, outcome_demand}

@@ -1,7 +1,7 @@
 -- How far apart the turns of a node are: at most a full cycle, as a turn takes at most its node's budget of messages and its protocol
 -- slot. What is kept from turn to turn: its start, and the most that the turns from it up to node k's next one can take, stay
 -- within the cycles since the window of node k opened. Assumes nothing.
-use Prim.Native.Nat.{ℕ, suc, pred, ◌+◌, ◌*◌, ◌≤◌, ◌<◌}
+use Prim.Native.Nat.{ℕ, zero, suc, pred, ◌+◌, ◌*◌, ◌≤◌, ◌<◌}
 use mathlib.Core.Path.{◌≡◌, refl, ap}
 use mathlib.Core.Logic.{◌⊎◌, inl, inr}
 use mathlib.Core.Bool.{cond}
@@ -53,6 +53,7 @@ module _ (s : List ℕ) where
 
   -- The turns before a node's and its own are part of a cycle.
   ticks_in_cycle : (k : ℕ) → 1 ≤ k → k ≤ nodes s → ticks_before s k + turn_ticks s k ≤ cycle s
+  ticks_in_cycle zero from up_to = elim from [ ]
   ticks_in_cycle (suc k) from up_to = omega (arith, sum_to_next (turn_ticks s) k, sum_to_grows (turn_ticks s) (suc k) (nodes s) up_to, ticks_all)
 
   -- A cycle has room for a turn of each node.
@@ -83,6 +84,7 @@ module _ (s : List ℕ) where
       → 1 ≤ n
       → n ≤ nodes s
       → ticks_before s n + turn_ticks s n + past s k (next_node s n) ≡ ticks_before s (next_node s n) + past s k (suc n)
+  next_turn k zero from up_to low high = elim low [ ]
   next_turn k (suc n) from up_to low high = go (after_node s (suc n) high)
     where
       go : {next : ℕ}

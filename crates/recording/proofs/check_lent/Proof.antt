@@ -3,7 +3,7 @@ use borrow.Author.Rules.{rules}
 use Rattle.model.specs.Sheet.{sheet_refusal}
 use Rattle.model.specs.Answers.{room_refusal}
 use Rattle.model.proofs.Sheet.Refusals.{or_else_both, refused, passed}
-use Rattle.log.specs.Replay.{replay_refusal}
+use Rattle.logs.specs.Replay.{replay_refusal}
 use Rattle.recording.specs.Recording.{records_refusal}
 use Rattle.recording.proofs.check_lent.Statement.{statement}
 use Rattle.recording.proofs.check_lent.Tie as tie

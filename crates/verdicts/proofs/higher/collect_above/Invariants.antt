@@ -1,0 +1,26 @@
+-- `verdicts::higher::collect_above` meets its contract: what is collected, and the words of those above among the streams that are
+-- left, are the whole, of the periods and of the jitters. Assumes nothing.
+use Prim.Native.Nat.{◌≤◌, ◌-◌, ◌+◌}
+use mathlib.Core.Path.{◌≡◌, sym, ap, ◌∙◌}
+use mathlib.Core.List.{◌++◌}
+use native.Mathlib.Omega.{arith}
+use borrow.Author.Rules.{rules}
+use lib.ListN.{length, take, length-set}
+use Rattle.model.specs.Limits.{max_streams}
+use Rattle.model.specs.Analysis.{stream_of, streams_from, above}
+use Rattle.verdicts.specs.Periods.{periods_of, jitters_of}
+use Rattle.theory.proofs.Filling.{fill_one, fill_none, fill_end}
+use Rattle.verdicts.proofs.Above.{left, left_all, left_ranked, left_unranked, left_none}
+use Rattle.verdicts.proofs.higher.collect_above.Given as goal
+
+abbrev pub invariant-loop-i : goal.invariant-loop-i
+invariant-loop-i l =
+    (l.i ≤ l.count)
+    × (l.n ≤ l.i)
+    × (length l.periods ≡ max_streams)
+    × (length l.jitters ≡ max_streams)
+    × (take l.n l.periods ++ left (λ y. y.period) l.sheet l.k l.x l.i l.count ≡ periods_of (above l.x (streams_from l.sheet l.k 1 l.count)))
+    × (take l.n l.jitters ++ left (λ y. y.jitter) l.sheet l.k l.x l.i l.count ≡ jitters_of (above l.x (streams_from l.sheet l.k 1 l.count)))
+
+abbrev pub decreases-loop-i : goal.decreases-loop-i
+decreases-loop-i l = l.count - l.i
