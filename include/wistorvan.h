@@ -1,4 +1,4 @@
-/* The proved planner for C and C++: link libwistorvan.a, which `rt staticlib wistorvan` writes to target/staticlib.
+/* The proved planner for C and C++: link libwistorvan.a, which `rt lib` in crates/wistorvan writes to its out/.
 
    Every function answers any input and asks nothing of its caller beyond what C cannot check: each pointer must be good for
    the number of words or stream records passed with it, a table that is written, a list and a record (the bus, the checkpoint)

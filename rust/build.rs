@@ -1,6 +1,6 @@
-//! Links the proved library that `rt staticlib wistorvan` writes: libwistorvan.a
-//! in the folder that WISTORVAN_LIB_DIR names, or else in target/staticlib of
-//! this repository.
+//! Links the proved library that `rt lib` in crates/wistorvan writes:
+//! libwistorvan.a in the folder that WISTORVAN_LIB_DIR names, or else in
+//! crates/wistorvan/out of this repository.
 
 use std::env;
 use std::path::{absolute, Path, PathBuf};
@@ -9,7 +9,7 @@ const LIB_DIR: &str = "WISTORVAN_LIB_DIR";
 
 /// The folder of the library; a relative name starts at this crate's folder.
 fn library_folder() -> PathBuf {
-    let built = Path::new(env!("CARGO_MANIFEST_DIR")).with_file_name("target/staticlib");
+    let built = Path::new(env!("CARGO_MANIFEST_DIR")).with_file_name("crates/wistorvan/out");
     let named = env::var_os(LIB_DIR).filter(|name| !name.is_empty());
     let folder = named.map_or(built, PathBuf::from);
     absolute(&folder).unwrap_or(folder)
@@ -22,7 +22,7 @@ fn main() {
     println!("cargo::rerun-if-changed={}", library.display());
     if !library.is_file() {
         println!(
-            "cargo::error={} is not there: run `rt staticlib wistorvan` at the root of the repository, \
+            "cargo::error={} is not there: run `rt lib` in crates/wistorvan of the repository, \
              or set {LIB_DIR} to the folder that has libwistorvan.a",
             library.display()
         );

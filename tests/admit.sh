@@ -1,5 +1,5 @@
 #!/usr/bin/env bash
-# Runs target/bin/admit on whole inputs, cut ones and pipes, and holds its output, to the byte, to document 01's and to the second
+# Runs crates/admit/out/admit on whole inputs, cut ones and pipes, and holds its output, to the byte, to document 01's and to the second
 # program's.
 . "$(dirname "$0")/lib.sh"
 

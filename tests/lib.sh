@@ -1,7 +1,6 @@
 # What the tests of the two programs share. Sourced.
 set -u
 root=$(cd "$(dirname "$0")/.." && pwd)
-bin=$root/target/bin
 peer=$root/peer/target/release/peer
 work=$(mktemp -d) || exit 1
 trap 'rm -rf "$work"' EXIT
@@ -47,7 +46,7 @@ pieces() { # FILE BYTES
 program() { # NAME ARGUMENT..
     local name=$1
     shift
-    "$bin/$name" "$@" >"$work/got" 2>&1 || echo "exit status $?" >>"$work/got"
+    "$root/crates/$name/out/$name" "$@" >"$work/got" 2>&1 || echo "exit status $?" >>"$work/got"
 }
 
 # Holds what a program wrote to what is expected.

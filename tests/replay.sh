@@ -1,5 +1,5 @@
 #!/usr/bin/env bash
-# Runs target/bin/replay on files, missing ones and cut ones, and holds its output, to the byte, to document 01's and to the second
+# Runs crates/replay/out/replay on files, missing ones and cut ones, and holds its output, to the byte, to document 01's and to the second
 # program's.
 . "$(dirname "$0")/lib.sh"
 

@@ -161,7 +161,7 @@ impl Files {
 pub fn command(seconds: u64, seed: u64) -> Result<()> {
     let root = Path::new(env!("CARGO_MANIFEST_DIR")).join("..");
     let wistorvan = root.join("command/target/release/wistorvan");
-    let bin = root.join("target/bin");
+    let program = |name: &str| root.join("crates").join(name).join("out").join(name);
     let folder = std::env::temp_dir().join(format!("wistorvan-bench-{}", std::process::id()));
     let files = Files::make(
         folder,
@@ -172,7 +172,7 @@ pub fn command(seconds: u64, seed: u64) -> Result<()> {
     let time = Duration::from_secs(seconds) / 4;
     let admit = |sheet: &str| Run {
         input: files.at(sheet),
-        ..Run::new(&bin.join("admit"), &[])
+        ..Run::new(&program("admit"), &[])
     };
     let ask = |args: &[&Path]| Run::new(&wistorvan, args);
     let (check, replay) = (Path::new("check"), Path::new("replay"));
@@ -196,7 +196,7 @@ pub fn command(seconds: u64, seed: u64) -> Result<()> {
         time,
     )?;
     let proved = Run::new(
-        &bin.join("replay"),
+        &program("replay"),
         &[&files.at("largest.sheet"), &files.at("log.words")],
     );
     pair(

@@ -348,7 +348,9 @@ fn main() -> ExitCode {
             ExitCode::from(2)
         }
         Some(Err(error)) => {
-            eprintln!("the programs in target/bin could not be run: {error}");
+            eprintln!(
+                "crates/admit/out/admit or crates/replay/out/replay could not be run: {error}"
+            );
             ExitCode::from(3)
         }
         Some(Ok(true)) => ExitCode::SUCCESS,

@@ -41,9 +41,10 @@ type File = Option<Vec<u8>>;
 const LONG_NAME: &str =
     "a folder with a name so long that no path through it is of under a hundred bytes";
 
-/// Where the programs are, and a folder of their own for their files.
+/// Where the programs' crates are, each with its program in out/, and a
+/// folder of their own for their files.
 pub struct Programs {
-    binaries: PathBuf,
+    crates: PathBuf,
     folder: PathBuf,
 }
 
@@ -55,14 +56,14 @@ impl Drop for Programs {
 
 impl Programs {
     pub fn new() -> io::Result<Programs> {
-        let binaries = Path::new(env!("CARGO_MANIFEST_DIR")).join("../target/bin");
+        let crates = Path::new(env!("CARGO_MANIFEST_DIR")).join("../crates");
         let folder = std::env::temp_dir().join(format!("compare-{}", std::process::id()));
         fs::create_dir_all(folder.join(LONG_NAME))?;
-        Ok(Programs { binaries, folder })
+        Ok(Programs { crates, folder })
     }
 
     fn start(&self, name: &str, files: &[PathBuf]) -> io::Result<Child> {
-        Command::new(self.binaries.join(name))
+        Command::new(self.crates.join(name).join("out").join(name))
             .args(files)
             .stdin(Stdio::piped())
             .stdout(Stdio::piped())

@@ -1,5 +1,5 @@
 //! The proved planner for slot-skipping (TDMA/SS) buses, for Rust programs: a
-//! safe face over the static library that `rt staticlib wistorvan` writes.
+//! safe face over the static library that `rt lib` in crates/wistorvan writes.
 //!
 //! A sheet describes a bus and its message streams. The planner says whether
 //! every stream meets its deadline, lists each stream's longest wait, and
@@ -36,8 +36,8 @@
 //!
 //! The build looks for libwistorvan.a in the folder that the environment
 //! variable `WISTORVAN_LIB_DIR` names (a relative name starts at this crate's
-//! folder), or else in target/staticlib of the repository. The library is for
-//! x86-64 Linux.
+//! folder), or else in crates/wistorvan/out of the repository. The library is
+//! for x86-64 Linux.
 
 #![deny(missing_docs)]
 

@@ -4,23 +4,23 @@
 
 ghost use Rattle.std.specs.Prelude.{◌≡◌, length, take};
 ghost use Rattle.model.specs.Limits.{longest_sheet};
-ghost use Rattle.io.specs.Counts.{IsPrefixLen};
+ghost use Rattle.std.specs.Counts.{IsPrefixLen};
 ghost use Rattle.input.specs.Input.{read_bytes};
 ghost use Rattle.texts.specs.Longest.{longest_admit_text};
 ghost use Rattle.admit.specs.Output.{answer_text, output};
 
 use input::{SHEET_BYTES, SHEET_WORDS};
-use libc::{STDIN_FILENO, STDOUT_FILENO};
+use std::io::{Print, Read};
 
 // Bytes of the longest text: 17 for the head, 17 a stream for 256 streams, and 20 for the line under them.
 const TEXT_BYTES: usize = 4389;
 
-// Reads standard input, to one byte past the longest sheet.
-fn read_sheet(bytes: &mut [u8]) -> usize
+// Reads a sheet, to one byte past the longest.
+fn read_sheet<R: Read>(from: &mut R, bytes: &mut [u8]) -> usize
     requires { length bytes.old ≡ read_bytes longest_sheet }
     ensures { IsPrefixLen result bytes.new }
 {
-    io::read_full(STDIN_FILENO, bytes)
+    input::read_full(from, bytes)
 }
 
 // The text for a sheet.
@@ -45,11 +45,11 @@ fn put_output(bytes: &[u8], text: &mut [u8]) -> usize
     put_answer(&words[..n], text)
 }
 
-// Reads the input, and writes its text in one call.
-fn main() {
+// Reads standard input, and writes its text in one call. The exit status is 0 always, also where that fails.
+fn main(rt: HostRuntime) {
     let mut bytes = [0u8; SHEET_BYTES];
-    let got = read_sheet(&mut bytes);
+    let got = read_sheet(&mut rt.stdin(), &mut bytes);
     let mut text = [0u8; TEXT_BYTES];
     let n = put_output(&bytes[..got], &mut text);
-    io::write_all(STDOUT_FILENO, &text[..n]);
+    let _ = rt.write_all(&text[..n]);
 }

@@ -1,10 +1,13 @@
-// Bytes to words, for the programs. The library itself takes words.
+// What the programs read: bytes, and bytes to words. The library itself takes words.
 #![tactic(auto)]
 
 ghost use Rattle.std.specs.Prelude.{◌≡◌, ◌+◌, ◌*◌, ◌%◌, ◌≤◌, ◌<◌, ◌++◌, length, take, drop};
 ghost use Rattle.model.specs.Limits.{longest_sheet, longest_replay_input};
 ghost use Rattle.model.specs.Sheet.{Valid};
+ghost use Rattle.std.specs.Counts.{IsPrefixLen};
 ghost use Rattle.input.specs.Input.{word_bytes, word_at, words_from, all_words, Loaded};
+
+use std::io::Read;
 
 // Words of the longest sheet.
 pub const SHEET_WORDS: usize = 819;
@@ -17,6 +20,24 @@ pub const SHEET_BYTES: usize = 4 * SHEET_WORDS + 1;
 
 // Bytes to read of a second file, likewise.
 pub const SECOND_BYTES: usize = 4 * SECOND_WORDS + 1;
+
+// Reads until the buffer is full, the input ends or a read fails, and answers how many bytes now stand at its start.
+pub fn read_full<R: Read>(from: &mut R, bytes: &mut [u8]) -> usize
+    ensures { IsPrefixLen result bytes.new }
+{
+    let mut done = 0;
+    while done < bytes.len() {
+        let got = match from.read(&mut bytes[done..]) {
+            Ok(n) => n,
+            Err(_) => 0,
+        };
+        if got == 0 {
+            break;
+        }
+        done += got;
+    }
+    done
+}
 
 // A byte as a word.
 fn widen(b: u8) -> u32

@@ -2,7 +2,7 @@
 #![tactic(auto)]
 
 ghost use Rattle.std.specs.Prelude.{◌≡◌, ◌++◌, ◌+◌, ◌*◌, ◌≤◌, ◌<◌, length, take, drop, replicate};
-ghost use Rattle.theory.specs.Count.{larger as largerOf};
+ghost use Rattle.theory.specs.Count.{larger as larger_of};
 ghost use Rattle.model.specs.Limits.{max_time, max_budget, max_releases, max_slot_ticks};
 ghost use Rattle.model.specs.Sheet.{word};
 ghost use Rattle.model.specs.Protocol.{releases, release_tick, release_stream};
@@ -21,7 +21,7 @@ pub struct Note {
 
 // The larger of two numbers.
 fn larger(a: u32, b: u32) -> u32
-    ensures { result ≡ largerOf a b }
+    ensures { result ≡ larger_of a b }
 {
     if a < b { b } else { a }
 }

@@ -4,49 +4,61 @@
 
 ghost use Rattle.std.specs.Prelude.{◌≡◌, ◌*◌, ◌≤◌, length, take};
 ghost use Rattle.model.specs.Limits.{release_words, max_releases, longest_sheet, longest_replay_input};
-ghost use Rattle.io.specs.Counts.{IsPrefixLen};
+ghost use Rattle.std.specs.Counts.{IsPrefixLen};
 ghost use Rattle.input.specs.Input.{read_bytes};
 ghost use Rattle.texts.specs.Longest.{longest_replay_text};
 ghost use Rattle.replay.specs.Output.{replayed_text, answer_text, output};
 
 use input::{SECOND_BYTES, SECOND_WORDS, SHEET_BYTES, SHEET_WORDS};
-use libc::STDOUT_FILENO;
+use std::env::Env;
+use std::fs::{File, Files};
+use std::io::Print;
+use std::str;
 
 // Bytes of the longest text: 14 for the head, 16 a release for 4,096 releases, and 33 for the line under them.
 const TEXT_BYTES: usize = 65583;
 
-// Reads the file that argument i names: nothing where it is missing, or cannot be opened or read.
-fn read_file(i: usize, bytes: &mut [u8]) -> usize
+// Bytes that Linux takes of a path, with the zero at its end.
+const PATH_BYTES: usize = 4096;
+
+// Reads the file of that name: nothing where it is missing, or cannot be opened or read. A name that is no UTF-8 text opens nothing.
+fn read_named<R: Files>(rt: &R, name: &[u8], bytes: &mut [u8]) -> usize
     ensures { IsPrefixLen result bytes.new }
 {
-    let mut path = io::buffer();
-    let length = os::arg(i, &mut path);
-    if os::errno() != 0 {
+    let Ok(path) = str::from_utf8(name) else {
         return 0;
+    };
+    match File::open(rt, path) {
+        Ok(mut file) => input::read_full(&mut file, bytes),
+        Err(_) => 0,
     }
-    let fd = os::open_read(&path[..length]);
-    if fd < 0 {
-        return 0;
+}
+
+// Reads the file that argument i names: nothing where there is no such argument.
+fn read_file<R: Env + Files>(rt: &R, i: usize, bytes: &mut [u8]) -> usize
+    ensures { IsPrefixLen result bytes.new }
+{
+    let mut name = [0u8; PATH_BYTES];
+    match rt.arg(i, &mut name) {
+        Ok(length) => read_named(rt, &name[..length], bytes),
+        Err(_) => 0,
     }
-    let got = io::read_full(fd, bytes);
-    libc::close(fd);
-    got
 }
 
 // Reads the sheet, to one byte past the longest.
-fn read_sheet(bytes: &mut [u8]) -> usize
+fn read_sheet<R: Env + Files>(rt: &R, bytes: &mut [u8]) -> usize
     requires { length bytes.old ≡ read_bytes longest_sheet }
     ensures { IsPrefixLen result bytes.new }
 {
-    read_file(1, bytes)
+    read_file(rt, 1, bytes)
 }
 
 // Reads the second file, to one byte past the longest.
-fn read_second(bytes: &mut [u8]) -> usize
+fn read_second<R: Env + Files>(rt: &R, bytes: &mut [u8]) -> usize
     requires { length bytes.old ≡ read_bytes longest_replay_input }
     ensures { IsPrefixLen result bytes.new }
 {
-    read_file(2, bytes)
+    read_file(rt, 2, bytes)
 }
 
 // The text for a sheet, a log and a horizon.
@@ -89,13 +101,13 @@ fn put_output(sheet: &[u8], second: &[u8], text: &mut [u8]) -> usize
     put_answer(&words[..n], &more[..m], text)
 }
 
-// Reads the two files, and writes their text in one call.
-fn main() {
+// Reads the two files, and writes their text in one call. The exit status is 0 always, also where that fails.
+fn main(rt: HostRuntime) {
     let mut bytes = [0u8; SHEET_BYTES];
-    let got = read_sheet(&mut bytes);
+    let got = read_sheet(&rt, &mut bytes);
     let mut more = [0u8; SECOND_BYTES];
-    let second = read_second(&mut more);
+    let second = read_second(&rt, &mut more);
     let mut text = [0u8; TEXT_BYTES];
     let n = put_output(&bytes[..got], &more[..second], &mut text);
-    io::write_all(STDOUT_FILENO, &text[..n]);
+    let _ = rt.write_all(&text[..n]);
 }

@@ -24,10 +24,10 @@ look_at-count-requires c =
     let pre = c.requires in
     let l = c.loop-i in
     let streams = c.streams_of-streams.ensures in
-    let most = ap (λ r. r.budget) streams in (
-      (streams ∙ sym (ap (λ k. streams_as c.args.sheet.now k) (ap (λ r. r.node) streams)), omega (arith, c.loop-i-test.true, pre.first_unbegun.1.in_log), rw (ap (λ r. r.node) streams) (look_found l.invariant.3), rw (ap (λ r. r.node) streams) pre.valid_node.0),
-      (omega (arith, most, l.invariant.3.few), omega (arith, most, pre.valid_node.2, l.invariant.2)),
-    )
+    let most = ap (λ r. r.budget) streams in record {
+      streams_value = (streams ∙ sym (ap (λ k. streams_as c.args.sheet.now k) (ap (λ r. r.node) streams)), omega (arith, c.loop-i-test.true, pre.first_unbegun.1.in_log), rw (ap (λ r. r.node) streams) (look_found l.invariant.3), rw (ap (λ r. r.node) streams) pre.valid_node.0);
+      count_le_most = (omega (arith, most, l.invariant.3.few), omega (arith, most, pre.valid_node.2, l.invariant.2));
+    }
 
 pub loop-i-preserved : goal.loop-i-preserved
 loop-i-preserved c =
@@ -43,9 +43,9 @@ loop-i-preserved c =
     let line = rw (ap (λ r. r.node) streams, most) at found.1 in
     let here = look_next {next = c.look_at-count.result} {after = c.look_at-count.new.found} (omega (arith, arrived.in_log, early)) (l.invariant.1 early) (omega (arith, found.0, most)) line l.invariant.3 in (
       omega (arith, next.range.1, arrived.in_log),
-      next.begun.1,
+      next.unbegun,
       c.look_at-count.auto.found ∙ l.invariant.2,
-      look_on next.range.0 (λ n low high. waiting_begun a.sheet.now a.log.now a.node a.tick a.room.now n (next.begun.0 n low high)) here,
+      look_on next.range.0 (λ n low high. waiting_begun a.sheet.now a.log.now a.node a.tick a.room.now n (next.begun n low high)) here,
     )
 
 pub returns : goal.returns

@@ -51,7 +51,7 @@ returns c =
     let a = c.before.before.before.before.before.before.before.before.before.before.before.before.before.before.before.before.before.args in
     let put = c.put_among.ensures in
     let placed = c.place_among-place.ensures in
-    let listed = own c.before.before.before.before.before.before.before.before.before in
+    let listed = own c.before.before.before.before.before.before.before.before in
     let mine = (of_node_reading a.sheet.now a.streams.node (release_stream a.log.now a.at)).1 (listed.above, listed.up_to) in
-    let due = le-leb (release_tick a.log.now a.at) a.tick c.if3.false in
+    let due = le-leb (release_tick a.log.now a.at) a.tick c.if-tick-log.false in
     (put.0, put.1 ∙ rw (due, mine) (ap (take a.most) (sym placed.1)))

@@ -17,8 +17,8 @@ verdict_by-requires c =
     let s = a.sheet.now in
     let fits = valid_fits s p.0 in
     let stream = c.stream_of-stream in
-    let found = c.higher_streams-n.ensures.periods in (
-      rw (found.0, found.1) (above_ranges s a.k stream.result fits p.1.node_from p.1.node_to),
+     (
+      rw (c.higher_streams-n.ensures.periods, c.higher_streams-n.ensures.jitters) (above_ranges s a.k stream.result fits p.1.node_from p.1.node_to),
       rw c.timing_with-timing.ensures (timing_ranges s a.cycle a.budget fits p.2),
       rw stream.ensures (stream_ranges s a.k a.j fits p.1),
     )
@@ -28,10 +28,10 @@ returns c =
     let a = c.args in
     let s = a.sheet.now in
     let stream = c.stream_of-stream.ensures in
-    let found = c.higher_streams-n.ensures.periods in
+    
     verdict_lists s a.cycle a.budget a.k a.j
-    (found.0 ∙ ap (higher_periods s a.k) stream)
-    (found.1 ∙ ap (higher_jitters s a.k) stream)
+    (c.higher_streams-n.ensures.periods ∙ ap (higher_periods s a.k) stream)
+    (c.higher_streams-n.ensures.jitters ∙ ap (higher_jitters s a.k) stream)
     c.timing_with-timing.ensures
     stream
     c.verdict_by.ensures

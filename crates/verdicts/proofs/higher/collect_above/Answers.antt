@@ -59,12 +59,10 @@ returns c =
     let a = c.args in
     let body = c.requires.0 in
     let l = c.loop-i in
-    let past = c.loop-i-test.false in (
-      omega (arith, body.few),
-      (
-        fill_end _ (left_none (λ y. y.period) a.sheet.now a.k a.x l.i a.count past) l.invariant.4
-            ∙ ap (λ n. periods_of (above a.x (streams_from a.sheet.now a.k 1 n))) body.counted,
-        fill_end _ (left_none (λ y. y.jitter) a.sheet.now a.k a.x l.i a.count past) l.invariant.5
-            ∙ ap (λ n. jitters_of (above a.x (streams_from a.sheet.now a.k 1 n))) body.counted,
-      ),
-    )
+    let past = c.loop-i-test.false in record {
+      count = omega (arith, body.few);
+      periods = fill_end _ (left_none (λ y. y.period) a.sheet.now a.k a.x l.i a.count past) l.invariant.4
+            ∙ ap (λ n. periods_of (above a.x (streams_from a.sheet.now a.k 1 n))) body.counted;
+      jitters = fill_end _ (left_none (λ y. y.jitter) a.sheet.now a.k a.x l.i a.count past) l.invariant.5
+            ∙ ap (λ n. jitters_of (above a.x (streams_from a.sheet.now a.k 1 n))) body.counted;
+    }

@@ -1,0 +1,80 @@
+-- `editor::edit_stream` meets its contract: the words are put in their place where no check refuses, and nothing is written otherwise.
+-- Assumes nothing.
+use Prim.Native.Nat.{ℕ, ◌+◌, ◌-◌, ◌≤◌}
+use native.Mathlib.Omega.{arith}
+use mathlib.Core.Path.{◌≡◌, ◌∙◌, ap}
+use mathlib.Core.List.{List, [], ◌∷◌, ◌++◌}
+use borrow.Author.Rules.{rules}
+use lib.ListN.{length, take, drop}
+use Rattle.theory.specs.Listing.{replaced_at, put_front}
+use Rattle.theory.proofs.Overwriting.{over_lent, lent_length, put_fits}
+use Rattle.model.specs.declared.Answer.{Answer}
+use Rattle.model.specs.Limits.{stream_words}
+use Rattle.model.specs.Sheet.{stream_at, Valid}
+use Rattle.edits.specs.Edit.{Edit, edit_of, edit_answer, edit_sheet, OthersKept}
+use Rattle.edits.proofs.Promise.{edit_refused, edit_done, edit_passes, edit_there, stays_valid, others_kept}
+use Rattle.editor.proofs.edit_stream.Goals as goal
+use Rattle.editor.proofs.edit_stream.Lts as lts
+use Rattle.editor.proofs.edit_stream.Tie as tie
+use Rattle.editor.proofs.edit_stream.Reads as reads
+
+-- The four clauses go by the answer and the words.
+promised : (s : List ℕ) (e : Edit) {a : Answer} {after : List ℕ}
+    → a ≡ edit_answer s e
+    → after ≡ edit_sheet s e
+    → (a ≡ edit_answer s e) × ((after ≡ edit_sheet s e) × ((a.number ≡ 0 → Valid after) × OthersKept s after e.own))
+promised s e answer sheet = (answer, (sheet, (stays_valid s e answer sheet, others_kept s e answer sheet)))
+
+-- The words put into the part that is lent from the stream's place on.
+words-set : (s : List ℕ) (e : Edit) (part : List ℕ) (at : ℕ)
+    → (edit_answer s e).number ≡ 0
+    → at ≡ stream_at s e.node e.stream
+    → part ≡ put_front (e.period ∷ e.deadline ∷ e.jitter ∷ []) (take (length s - at) (drop at s))
+    → take at s ++ (part ++ drop (length s - at) (drop at s)) ≡ edit_sheet s e
+words-set s e part at none here put =
+    let values : List ℕ = e.period ∷ e.deadline ∷ e.jitter ∷ [] in
+    let lent = take (length s - at) (drop at s) in
+    let back = put_fits values lent (omega (arith, here, lent_length s at, edit_there s e (edit_passes s e none))) in
+    over_lent s part at values (put ∙ back) ∙ ap (λ i. replaced_at s i values) here ∙ edit_done s e none
+
+-- The edit named by the arguments, and the check's success.
+abbrev the-edit : (c : lts.After-place_in_body tie.the-claims reads.Pre reads.Post tie.handed_clauses) → Edit
+the-edit c =
+    let a = c.args in
+    edit_of a.own-node a.node a.stream a.period a.deadline a.jitter
+
+no-refusal : (c : lts.After-place_in_body tie.the-claims reads.Pre reads.Post tie.handed_clauses)
+    → (edit_answer c.args.sheet.now (the-edit c)).number ≡ 0
+no-refusal c = rw c.check_edit-answer.ensures at c.if-answer-eq0.true
+
+-- The place found is the stream's,
+found : (c : lts.After-place_in_body tie.the-claims reads.Pre reads.Post tie.handed_clauses)
+    → c.place_in_body-at.result
+    ≡ stream_at c.args.sheet.now (the-edit c).node (the-edit c).stream
+found c = omega (arith, c.place_in_body-at.ensures.0, c.place_of.ensures)
+
+-- and all its words are there.
+inside : (c : lts.After-place_in_body tie.the-claims reads.Pre reads.Post tie.handed_clauses)
+    → c.place_in_body-at.result + stream_words ≤ length c.args.sheet.now
+inside c =
+    let s = c.args.sheet.now in
+    omega (arith, found c, edit_there s (the-edit c) (edit_passes s (the-edit c) (no-refusal c)))
+
+pub slice_bounds-put_stream-count : goal.slice_bounds-put_stream-count
+slice_bounds-put_stream-count c = omega (arith, inside c.before)
+
+pub returns-then-answer-eq0 : goal.returns-then-answer-eq0
+returns-then-answer-eq0 c =
+    let all = (let p = c.before.before.before.before in
+    let a = p.args in
+    promised a.sheet.now (the-edit p) p.check_edit-answer.ensures
+    (words-set a.sheet.now (the-edit p) _ p.place_in_body-at.result (no-refusal p) (found p) c.put_stream.ensures)) in
+    record { answer = all.0; sheet = all.1.0; valid = all.1.1.0; others = all.1.1.1 }
+
+pub returns-else-answer-eq0 : goal.returns-else-answer-eq0
+returns-else-answer-eq0 c =
+    let all = (let a = c.args in
+    let e = edit_of a.own-node a.node a.stream a.period a.deadline a.jitter in
+    let same = c.check_edit-answer.ensures in
+    promised a.sheet.now e same (edit_refused a.sheet.now e (λ none. c.if-answer-eq0.false (rw same none)))) in
+    record { answer = all.0; sheet = all.1.0; valid = all.1.1.0; others = all.1.1.1 }

@@ -1,0 +1,25 @@
+-- `places::put_numbers` meets its contract: what is left to write from here makes the whole. Assumes nothing.
+use Prim.Native.Nat.{suc, ◌+◌, ◌-◌, ◌≤◌}
+use native.Mathlib.Nat.{add-zero, sub-zero}
+use native.Mathlib.Omega.{arith}
+use mathlib.Core.Path.{◌≡◌, refl, ◌∙◌}
+use lib.ListN.{length, length-set}
+use Rattle.theory.specs.Listing.{values_from, replaced_at}
+use Rattle.places.proofs.Writing.{numbers_next, numbers_done}
+use Rattle.places.proofs.put_numbers.Goals as goal
+
+pub loop-i-preserved : goal.loop-i-preserved
+loop-i-preserved c =
+    let a = c.args in
+    let l = c.loop-i in (
+      omega arith,
+      omega arith,
+      length-set l.numbers (a.at + l.i) (l.number + 1) ∙ l.invariant.2,
+      numbers_next a.at l.i l.number a.count l.numbers c.loop-i-test.true (omega arith) l.invariant.3,
+    )
+
+pub returns : goal.returns
+returns c =
+    let a = c.args in
+    let l = c.loop-i in
+    numbers_done a.at l.i l.number a.count (omega (arith, c.loop-i-test.false)) l.invariant.3

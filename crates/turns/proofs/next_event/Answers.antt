@@ -1,0 +1,42 @@
+-- `turns::next_event` meets its contract: the next release is the earliest that is left, since ticks never fall.
+-- Assumes nothing.
+use Prim.Native.Nat.{ℕ, ◌≤◌, ◌<◌}
+use mathlib.Core.List.{List}
+use native.Mathlib.Decide.{le_ind}
+use native.Mathlib.Nat.{le_refl}
+use native.Mathlib.Omega.{arith}
+use borrow.Author.Rules.{rules}
+use Rattle.model.specs.Protocol.{releases, release_tick}
+use Rattle.queue.specs.Queue.{RisingFrom}
+use Rattle.turns.proofs.next_event.Goals as goal
+
+-- a release is no earlier than one before it in the log
+no-earlier : (log : List ℕ) (to : ℕ) → RisingFrom log to → (i : ℕ) → to ≤ i → i < releases log → release_tick log to ≤ release_tick log i
+no-earlier log to rising i after there =
+    le_ind
+    (λ m. m < releases log → release_tick log to ≤ release_tick log m)
+    (λ _. le_refl _)
+    (λ m low ih here. omega (arith, ih (omega arith), rising m low here))
+    i
+    after
+    there
+
+pub returns-then-next-horizon : goal.returns-then-next-horizon
+returns-then-next-horizon c =
+    let a = c.args in
+    let pre = c.requires in
+    record {
+      later = pre.1.later a.to (le_refl _) (omega (arith, c.if-log-to.false));
+      in_run = omega (arith, c.if-next-horizon.true);
+      quiet = no-earlier a.log.now a.to pre.0;
+    }
+
+pub returns-else-next-horizon : goal.returns-else-next-horizon
+returns-else-next-horizon c =
+    let a = c.args in
+    let pre = c.requires in
+    record {
+      later = pre.2;
+      in_run = le_refl _;
+      quiet = λ i after there. omega (arith, no-earlier a.log.now a.to pre.0 i after there, c.if-next-horizon.false);
+    }
