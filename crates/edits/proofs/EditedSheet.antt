@@ -11,7 +11,7 @@ use lib.ListN.{length}
 use Rattle.theory.proofs.Sums.{sum_to_same, sum_to_split, sum_to_grows}
 use Rattle.theory.proofs.Overwriting.{over_length, over_before, over_there, over_after}
 use Rattle.model.specs.Limits.{stream_words}
-use Rattle.model.specs.Sheet.{word, nodes, message_ticks, slot_ticks, row_at, place, stream_count, budget, streams_up_to, streams_before, total_streams, contents_words, stream_at, period, deadline, jitter, times_outside, OnSheet, Valid}
+use Rattle.model.specs.Sheet.{word, nodes, message_ticks, slot_ticks, row_at, place, stream_count, budget, streams_up_to, streams_before, total_streams, contents_words, stream_at, period, times_outside, OnSheet, Valid}
 use Rattle.model.specs.Analysis.{stream_of, streams_from, streams_of}
 use Rattle.model.proofs.Sheet.ValidSheet.{HeaderFits, RowFits, StreamFits, SheetFits, times_within, fits_valid}
 use Rattle.model.proofs.Sheet.NodeSums.{body_whole}

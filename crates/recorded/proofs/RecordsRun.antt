@@ -29,6 +29,25 @@ pub record Asked (s log : List ℕ) (horizon : ℕ) (limits found room : List �
   pub known : KnownStreams s log
   pub up_to_date : UpToDate s log room records
 
+-- The three clauses that the run is asked with say so.
+pub asked_by : {s log : List ℕ} {horizon : ℕ} {limits found room : List ℕ} {records : List StreamRecord}
+    → Valid s × Rising log × (horizon ≤ max_time) × (releases log ≤ length room) × (max_budget ≤ length found)
+    → take (releases log) room ≡ replicate (releases log) not_begun
+    → LimitsOf s limits × KnownStreams s log × UpToDate s log room records
+    → Asked s log horizon limits found room records
+asked_by first clear dated =
+    record {
+      valid = first.0;
+      rising = first.1;
+      in_time = first.2;
+      fits = first.3;
+      places = first.4;
+      clear = clear;
+      limited = dated.0;
+      known = dated.1;
+      up_to_date = dated.2;
+    }
+
 -- The run has come to this position, with these lists; the records are up to date, and those past the sheet's streams are as they were.
 pub record Noted (s log : List ℕ) (horizon : ℕ) (found₀ room₀ : List ℕ) (records₀ : List StreamRecord) (p : Position) (found room : List ℕ)
     (records : List StreamRecord) : Type 0 where

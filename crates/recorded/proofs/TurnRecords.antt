@@ -145,6 +145,11 @@ abbrev pub taken : List ℕ → List ℕ → Bus → List ℕ → List ℕ
 taken s log bus room = taken_by s log bus.node bus.tick (budget s bus.node) room
 
 module _ (s log : List ℕ) (bus : Bus) (room : List ℕ) where
+  -- They are as many as it takes.
+  pub taken_is : (serve_turn s log bus room).taken ≡ length (taken s log bus room)
+  unfolding serve
+  taken_is = refl
+
   -- They have not begun.
   taken_unbegun : Unbegun log room (taken s log bus room)
   taken_unbegun =

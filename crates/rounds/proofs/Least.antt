@@ -14,7 +14,7 @@ use Rattle.model.specs.Refusal.{refuse, accepted, refuse_if, first_of}
 use Rattle.model.specs.Sheet.{nodes}
 use Rattle.model.proofs.Sheet.Refusals.{first_found}
 use Rattle.model.proofs.Sheet.ValidSheet.{SheetFits}
-use Rattle.rounds.specs.Rounds.{budget_in, row_cycle, late_with, Admits, has_late, first_row, full_refusal, stuck_refusal, goes_on, rounds, max_rounds, last_row}
+use Rattle.rounds.specs.Rounds.{budget_in, row_cycle, late_with, Admits, has_late, first_row, full_refusal, stuck_refusal, goes_on, max_rounds, last_row}
 use Rattle.rounds.specs.Least.{OneToSixteen, AtMost}
 use Rattle.rounds.proofs.Rows.{row_in}
 use Rattle.rounds.proofs.Under.{late_less, raised_under}

@@ -8,7 +8,7 @@ use lib.ListN.{length, take, drop}
 use lib.Seq.{take-append_seam}
 use borrow.Author.Tests.{le-ltb}
 use Rattle.model.specs.declared.Answer.{Answer}
-use Rattle.model.specs.Refusal.{success, ◌or_else◌}
+use Rattle.model.specs.Refusal.{success}
 use Rattle.model.specs.Sheet.{cycle}
 use Rattle.model.specs.Answers.{room_refusal}
 use Rattle.model.proofs.Answers.Buffer.{buffer_written}

@@ -1,5 +1,4 @@
 -- `asked::check_asked` meets its contract: the sheet's refusal is the chain's, or refusal 8 is. Assumes nothing.
-use borrow.Author.Rules.{rules}
 use Rattle.model.specs.Answers.{unknown_refusal}
 use Rattle.model.proofs.Sheet.Refusals.{refused, passed}
 use Rattle.asked.proofs.check_asked.Goals as goal

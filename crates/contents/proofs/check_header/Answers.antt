@@ -1,7 +1,6 @@
 -- `contents::check_header` meets its contract: each check's answer is the chain's where it refuses, and hands on to the next where it
 -- does not. Assumes nothing.
 use mathlib.Core.Path.{◌≡◌}
-use borrow.Author.Rules.{rules}
 use Rattle.model.specs.Refusal.{refuse, refuse_if}
 use Rattle.model.specs.Sheet.{message_ticks, slot_ticks, ticks_outside, header_refusal}
 use Rattle.model.proofs.Sheet.Refusals.{refused, passed}

@@ -1,5 +1,4 @@
 -- `contents::check_row` meets its contract: the test is the definition's. Assumes nothing.
-use borrow.Author.Rules.{rules}
 use Rattle.model.specs.Sheet.{row_refusal}
 use Rattle.contents.proofs.check_row.Goals as goal
 

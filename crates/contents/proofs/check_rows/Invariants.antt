@@ -1,16 +1,11 @@
 -- `contents::check_rows` meets its contract: what is left of the row of checks equals the whole, and `at` is where the next body must be.
 -- Assumes nothing.
 use Prim.Native.Nat.{◌≤◌, ◌*◌, ◌-◌, ◌+◌}
-use mathlib.Core.Path.{◌≡◌, refl}
-use native.Mathlib.Omega.{arith}
-use borrow.Author.Rules.{rules}
-use Rattle.model.proofs.Sheet.Refusals.{rest, rest_start, rest_on, rest_stop, rest_end}
-use Rattle.model.proofs.Sheet.ValidSheet.{row_fits}
-use Rattle.model.proofs.Sheet.NodeSums.{streams_next, body_next}
-use Rattle.theory.proofs.Sums.{sum_to_none}
+use mathlib.Core.Path.{◌≡◌}
+use Rattle.model.proofs.Sheet.Refusals.{rest}
 use Rattle.model.specs.Limits.{header_words, row_words, stream_words, max_nodes, max_streams}
 use Rattle.model.specs.Refusal.{first_of}
-use Rattle.model.specs.Sheet.{stream_count, streams_up_to, contents_words, row_refusal}
+use Rattle.model.specs.Sheet.{streams_up_to, contents_words, row_refusal}
 use Rattle.contents.proofs.check_rows.Given as goal
 
 abbrev pub invariant-loop-i : goal.invariant-loop-i

@@ -1,5 +1,4 @@
 -- `contents::row_is_wrong` meets its contract: the place is wrong, or the second test is the answer. Assumes nothing.
-use borrow.Author.Rules.{rules}
 use borrow.Author.Tests.{eq-eqb, ne_eqb}
 use mathlib.Core.Path.{sym, ◌∙◌, ap}
 use mathlib.Core.Bool.{not}

@@ -1,5 +1,4 @@
 -- `digits::put_number` meets its contract: a number's digits but the last are those of a tenth of it. Assumes nothing.
-use Rattle.std.proofs.Common.{arith, ◌≤◌}
 use Rattle.digits.proofs.Decimal.{decimal_one, decimal_more}
 use Rattle.digits.proofs.Putting.{then}
 use Rattle.digits.proofs.+put_number.Goals as goal

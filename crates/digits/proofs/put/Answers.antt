@@ -1,14 +1,9 @@
 -- `digits::put` meets its contract: after i turns the first i bytes are put.
 -- Assumes nothing.
-use Prim.Native.Nat.{◌≤◌, ◌-◌}
 use native.Mathlib.Numerals.{add-one}
 use native.Mathlib.Omega.{arith}
-use mathlib.Core.Path.{◌≡◌}
-use borrow.Author.Rules.{rules}
-use lib.ListN.{length, take}
-use lib.Seq.{take-suc, take-length}
-use Rattle.digits.specs.Put.{Put}
-use Rattle.digits.proofs.Putting.{nothing, then, same_size}
+use lib.Seq.{take-suc}
+use Rattle.digits.proofs.Putting.{then}
 use Rattle.digits.proofs.put.Goals as goal
 
 pub loop-i-preserved : goal.loop-i-preserved

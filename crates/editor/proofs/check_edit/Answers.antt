@@ -4,7 +4,6 @@ use Prim.Native.Nat.{ℕ}
 use mathlib.Core.Path.{◌≡◌, refl, ◌∙◌}
 use mathlib.Core.Bool.{Bool, true, false}
 use mathlib.Core.List.{List}
-use borrow.Author.Rules.{rules}
 use Rattle.model.specs.declared.Answer.{Answer}
 use Rattle.model.specs.Refusal.{success, refuse, refuse_if, ◌or_else◌}
 use Rattle.model.specs.Sheet.{sheet_refusal}
@@ -29,14 +28,14 @@ last false k j = refl
 pub returns-then-fault-ne0 : goal.returns-then-fault-ne0
 returns-then-fault-ne0 c =
     let a = c.args in
-    in_order a.sheet.now (edit_of a.own-node a.node a.stream a.period a.deadline a.jitter)
+    in_order a.sheet.now (edit_of a.own_node a.node a.stream a.period a.deadline a.jitter)
     (refused _ c.check_asked-fault.ensures c.if-fault-ne0.true)
 
 pub returns-then-other-ne0 : goal.returns-then-other-ne0
 unfolding other_node_refusal
 returns-then-other-ne0 c =
     let a = c.args in
-    in_order a.sheet.now (edit_of a.own-node a.node a.stream a.period a.deadline a.jitter)
+    in_order a.sheet.now (edit_of a.own_node a.node a.stream a.period a.deadline a.jitter)
     (passed c.check_asked-fault.ensures c.if-fault-ne0.false
     (refused _ c.refuse_if-other.ensures c.if-other-ne0.true))
 
@@ -44,7 +43,7 @@ pub returns : goal.returns
 unfolding other_node_refusal new_words_refusal
 returns c =
     let a = c.args in
-    in_order a.sheet.now (edit_of a.own-node a.node a.stream a.period a.deadline a.jitter)
+    in_order a.sheet.now (edit_of a.own_node a.node a.stream a.period a.deadline a.jitter)
     (passed c.check_asked-fault.ensures c.if-fault-ne0.false
     (passed c.refuse_if-other.ensures c.if-other-ne0.false
     ((rw c.times_outside-wrong.ensures at c.refuse_if.ensures) ∙ last _ a.node a.stream)))

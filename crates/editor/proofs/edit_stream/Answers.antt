@@ -4,7 +4,6 @@ use Prim.Native.Nat.{ℕ, ◌+◌, ◌-◌, ◌≤◌}
 use native.Mathlib.Omega.{arith}
 use mathlib.Core.Path.{◌≡◌, ◌∙◌, ap}
 use mathlib.Core.List.{List, [], ◌∷◌, ◌++◌}
-use borrow.Author.Rules.{rules}
 use lib.ListN.{length, take, drop}
 use Rattle.theory.specs.Listing.{replaced_at, put_front}
 use Rattle.theory.proofs.Overwriting.{over_lent, lent_length, put_fits}
@@ -41,7 +40,7 @@ words-set s e part at none here put =
 abbrev the-edit : (c : lts.After-place_in_body tie.the-claims reads.Pre reads.Post tie.handed_clauses) → Edit
 the-edit c =
     let a = c.args in
-    edit_of a.own-node a.node a.stream a.period a.deadline a.jitter
+    edit_of a.own_node a.node a.stream a.period a.deadline a.jitter
 
 no-refusal : (c : lts.After-place_in_body tie.the-claims reads.Pre reads.Post tie.handed_clauses)
     → (edit_answer c.args.sheet.now (the-edit c)).number ≡ 0
@@ -60,12 +59,15 @@ inside c =
     let s = c.args.sheet.now in
     omega (arith, found c, edit_there s (the-edit c) (edit_passes s (the-edit c) (no-refusal c)))
 
+pub slice_bounds-put_stream-start : goal.slice_bounds-put_stream-start
+slice_bounds-put_stream-start c = omega (arith, inside c)
+
 pub slice_bounds-put_stream-count : goal.slice_bounds-put_stream-count
-slice_bounds-put_stream-count c = omega (arith, inside c.before)
+slice_bounds-put_stream-count c = omega (arith, inside c)
 
 pub returns-then-answer-eq0 : goal.returns-then-answer-eq0
 returns-then-answer-eq0 c =
-    let all = (let p = c.before.before.before.before in
+    let all = (let p = c.before.before.before.before.before in
     let a = p.args in
     promised a.sheet.now (the-edit p) p.check_edit-answer.ensures
     (words-set a.sheet.now (the-edit p) _ p.place_in_body-at.result (no-refusal p) (found p) c.put_stream.ensures)) in
@@ -74,7 +76,7 @@ returns-then-answer-eq0 c =
 pub returns-else-answer-eq0 : goal.returns-else-answer-eq0
 returns-else-answer-eq0 c =
     let all = (let a = c.args in
-    let e = edit_of a.own-node a.node a.stream a.period a.deadline a.jitter in
+    let e = edit_of a.own_node a.node a.stream a.period a.deadline a.jitter in
     let same = c.check_edit-answer.ensures in
     promised a.sheet.now e same (edit_refused a.sheet.now e (λ none. c.if-answer-eq0.false (rw same none)))) in
     record { answer = all.0; sheet = all.1.0; valid = all.1.1.0; others = all.1.1.1 }

@@ -1,10 +1,8 @@
 -- `fill::put` meets its contract: the words passed are the values', the rest is as it was. Assumes nothing.
-use Prim.Native.Nat.{◌≤◌, ◌<◌, ◌-◌}
-use mathlib.Core.Path.{◌≡◌, refl, sym, ◌∙◌}
-use mathlib.Core.List.{◌++◌}
+use Prim.Native.Nat.{◌<◌}
+use mathlib.Core.Path.{◌≡◌, sym, ◌∙◌}
 use native.Mathlib.Omega.{arith}
-use borrow.Author.Rules.{rules}
-use lib.ListN.{length, take, drop, length-set}
+use lib.ListN.{length, length-set}
 use Rattle.theory.proofs.Overwriting.{put_fits, put_not, copy_one, copy_end}
 use Rattle.fill.proofs.put.Goals as goal
 

@@ -1,11 +1,8 @@
 -- `fill::put` meets its contract: the words passed are the values', the rest is as it was. Assumes nothing.
-use Prim.Native.Nat.{◌≤◌, ◌<◌, ◌-◌}
-use mathlib.Core.Path.{◌≡◌, refl, sym, ◌∙◌}
+use Prim.Native.Nat.{◌≤◌, ◌-◌}
+use mathlib.Core.Path.{◌≡◌}
 use mathlib.Core.List.{◌++◌}
-use native.Mathlib.Omega.{arith}
-use borrow.Author.Rules.{rules}
-use lib.ListN.{length, take, drop, length-set}
-use Rattle.theory.proofs.Overwriting.{put_fits, put_not, copy_one, copy_end}
+use lib.ListN.{length, take, drop}
 use Rattle.fill.proofs.put.Given as goal
 
 abbrev pub invariant-loop-i : goal.invariant-loop-i

@@ -1,10 +1,10 @@
 -- `input::store` meets its contract: after i turns the first i words are those of the bytes.
 -- Assumes nothing.
-use Prim.Native.Nat.{◌+◌, ◌≤◌, ◌-◌}
+use Prim.Native.Nat.{◌+◌}
 use native.Mathlib.Omega.{arith}
-use mathlib.Core.Path.{◌≡◌, refl, sym, ◌∙◌, ap}
+use mathlib.Core.Path.{refl, sym, ◌∙◌, ap}
 use mathlib.Core.List.{[], ◌∷◌, ◌++◌}
-use lib.ListN.{length, drop, set, length-set}
+use lib.ListN.{drop, set, length-set}
 use borrow.Author.Rules.{rules}
 use Rattle.theory.proofs.Overwriting.{write_next}
 use Rattle.input.specs.Input.{words_from}

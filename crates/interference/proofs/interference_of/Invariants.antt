@@ -1,14 +1,9 @@
 -- `interference::interference_of` meets its contract: the sum so far is that over the streams so far. Assumes nothing.
 use Prim.Native.Nat.{◌≤◌, ◌-◌, ◌*◌}
-use mathlib.Core.Path.{◌≡◌, sym, ap₂, ◌∙◌}
-use native.Mathlib.Omega.{arith}
-use borrow.Author.Rules.{rules}
+use mathlib.Core.Path.{◌≡◌}
 use lib.ListN.{length}
 use Rattle.theory.specs.Sum.{sum_to}
-use Rattle.theory.proofs.Sums.{sum_to_none, sum_to_more}
-use Rattle.model.specs.Analysis.{most_releases}
 use Rattle.interference.specs.Periods.{releases_by}
-use Rattle.interference.proofs.Periods.{next_entry}
 use Rattle.interference.proofs.interference_of.Given as goal
 
 abbrev pub invariant-loop-i : goal.invariant-loop-i

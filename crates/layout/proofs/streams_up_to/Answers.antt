@@ -1,11 +1,10 @@
 -- `layout::streams_up_to` meets its contract: the sum so far is that of the nodes passed.
 -- Assumes nothing.
-use Prim.Native.Nat.{◌≤◌, ◌*◌, ◌-◌}
-use mathlib.Core.Path.{◌≡◌, sym, ◌∙◌}
+use mathlib.Core.Path.{sym, ◌∙◌}
 use native.Mathlib.Omega.{arith}
 use borrow.Author.Rules.{rules}
 use Rattle.theory.proofs.Sums.{sum_to_none}
-use Rattle.model.specs.Sheet.{stream_count, streams_up_to}
+use Rattle.model.specs.Sheet.{stream_count}
 use Rattle.model.proofs.Sheet.NodeSums.{streams_next}
 use Rattle.layout.proofs.streams_up_to.Goals as goal
 

@@ -1,12 +1,8 @@
 -- `layout::streams_up_to` meets its contract: the sum so far is that of the nodes passed.
 -- Assumes nothing.
 use Prim.Native.Nat.{◌≤◌, ◌*◌, ◌-◌}
-use mathlib.Core.Path.{◌≡◌, sym, ◌∙◌}
-use native.Mathlib.Omega.{arith}
-use borrow.Author.Rules.{rules}
-use Rattle.theory.proofs.Sums.{sum_to_none}
-use Rattle.model.specs.Sheet.{stream_count, streams_up_to}
-use Rattle.model.proofs.Sheet.NodeSums.{streams_next}
+use mathlib.Core.Path.{◌≡◌}
+use Rattle.model.specs.Sheet.{streams_up_to}
 use Rattle.layout.proofs.streams_up_to.Given as goal
 
 abbrev pub invariant-loop-i : goal.invariant-loop-i

@@ -2,7 +2,6 @@
 use Prim.Native.Nat.{◌≤◌}
 use mathlib.Core.Path.{◌≡◌, refl, sym, ap}
 use native.Mathlib.Omega.{arith}
-use borrow.Author.Rules.{rules}
 use lib.ListN.{length, take}
 use lib.Seq.{length-take-le}
 use Rattle.theory.proofs.Ordering.{ordered_range}
@@ -18,7 +17,7 @@ use Rattle.limits.proofs.list_node.Tie as tie
 use Rattle.limits.proofs.list_node.Reads as reads
 
 -- The body of the node, as its row has it.
-body : (c : lts.After-row_of tie.the-claims reads.Pre reads.Post) → Body c.args.sheet.now c.args.k c.row_of-row.result.place c.row_of-row.result.streams
+body : (c : lts.After-row_of tie.the-claims reads.Pre reads.Post tie.handed_clauses) → Body c.args.sheet.now c.args.k c.row_of-row.result.place c.row_of-row.result.streams
 body c =
     let a = c.args in
     let p = c.requires in
@@ -26,25 +25,25 @@ body c =
     body_there a.sheet.now a.k (valid_fits a.sheet.now p.0) p.1 p.2 (ap (λ r. r.place) row) (ap (λ r. r.streams) row)
 
 -- It has no more streams than the arrays have words.
-few : (c : lts.After-wide tie.the-claims reads.Pre reads.Post) → c.wide-n.result ≤ 16
+few : (c : lts.After-wide tie.the-claims reads.Pre reads.Post tie.handed_clauses) → c.wide-n.result ≤ 16
 few c = omega (arith, c.wide-n.ensures.0, (body c.before.before).few)
 
 -- The streams in rank order, as many as there are,
-line : (c : lts.After-rank_streams tie.the-claims reads.Pre reads.Post) → take c.wide-n.result c.rank_streams.new.order ≡ rank_order c.args.sheet.now c.args.k
+line : (c : lts.After-rank_streams tie.the-claims reads.Pre reads.Post tie.handed_clauses) → take c.wide-n.result c.rank_streams.new.order ≡ rank_order c.args.sheet.now c.args.k
 line c = rw c.wide-n.ensures.0 c.rank_streams.ensures
 
 -- and their array, which is not too short for them.
-room : (c : lts.After-rank_streams tie.the-claims reads.Pre reads.Post) → c.wide-n.result ≤ length c.rank_streams.new.order
+room : (c : lts.After-rank_streams tie.the-claims reads.Pre reads.Post tie.handed_clauses) → c.wide-n.result ≤ length c.rank_streams.new.order
 room c = omega (arith, few c.before.before, c.rank_streams.auto.order)
 
-cut : (c : lts.After-rank_streams tie.the-claims reads.Pre reads.Post) → c.wide-n.result ≡ length (take c.wide-n.result c.rank_streams.new.order)
+cut : (c : lts.After-rank_streams tie.the-claims reads.Pre reads.Post tie.handed_clauses) → c.wide-n.result ≡ length (take c.wide-n.result c.rank_streams.new.order)
 cut c = sym (length-take-le c.wide-n.result c.rank_streams.new.order (room c))
 
 -- The arrays of their periods and jitters are not too short either.
-periods-room : (c : lts.After-times_of tie.the-claims reads.Pre reads.Post) → c.wide-n.result ≤ length c.times_of.new.periods
+periods-room : (c : lts.After-times_of tie.the-claims reads.Pre reads.Post tie.handed_clauses) → c.wide-n.result ≤ length c.times_of.new.periods
 periods-room c = omega (arith, few c.before.before.before.before.before.before.before, c.times_of.auto.periods)
 
-jitters-room : (c : lts.After-times_of tie.the-claims reads.Pre reads.Post) → c.wide-n.result ≤ length c.times_of.new.jitters
+jitters-room : (c : lts.After-times_of tie.the-claims reads.Pre reads.Post tie.handed_clauses) → c.wide-n.result ≤ length c.times_of.new.jitters
 jitters-room c = omega (arith, few c.before.before.before.before.before.before.before, c.times_of.auto.jitters)
 
 pub rank_streams-requires : goal.rank_streams-requires
@@ -91,5 +90,5 @@ list_ranked-requires c =
     let times = rw (← cut c.before.before.before.before.before.before.before.before.before.before.before.before, line c.before.before.before.before.before.before.before.before.before.before.before.before) at c.times_of.ensures in
     let timing = timing_own s a.k _ c.timing_with-timing.ensures p.3 (ap (λ r. r.budget) c.row_of-row.ensures) in record {
       valid = (p.0, p.1, p.2, own, timing, omega (arith, own.counted, p.4));
-      order_value = (line c.before.before.before.before.before.before.before.before.before.before.before.before, times.0, times.1);
+      order_value = (line c.before.before.before.before.before.before.before.before.before.before.before.before, times.periods, times.jitters);
     }

@@ -2,15 +2,15 @@
 -- next node go into the part of the table that is lent from `at` on.
 -- Assumes nothing.
 use Prim.Native.Nat.{◌≤◌, ◌-◌, ◌+◌}
-use mathlib.Core.Path.{◌≡◌, refl, sym, ◌∙◌}
+use mathlib.Core.Path.{refl, sym, ◌∙◌}
 use native.Mathlib.Omega.{arith}
-use borrow.Author.Rules.{rules}
+use borrow.Rule.Slice.PartMut.{same_len_mid}
 use lib.ListN.{length}
 use Rattle.theory.proofs.Overwriting.{lent_length}
 use Rattle.theory.proofs.Sums.{sum_to_none}
-use Rattle.model.specs.Sheet.{nodes, stream_count, streams_up_to}
+use Rattle.model.specs.Sheet.{stream_count}
 use Rattle.model.proofs.Sheet.NodeSums.{streams_next, streams_room}
-use Rattle.limits.proofs.Filled.{limit_at, nodes_filled, nodes_none, nodes_next}
+use Rattle.limits.proofs.Filled.{limit_at, nodes_none, nodes_next}
 use Rattle.limits.proofs.list_nodes.Goals as goal
 use Rattle.limits.proofs.list_nodes.Lts as lts
 use Rattle.limits.proofs.list_nodes.Tie as tie
@@ -34,6 +34,9 @@ loop-i-init c =
 
 pub offset_bounds-limits-at : goal.offset_bounds-limits-at
 offset_bounds-limits-at c = omega (arith, free c.before, c.loop-i.invariant.1, c.well_formed)
+
+pub slice_bounds-list_node-start : goal.slice_bounds-list_node-start
+slice_bounds-list_node-start c = omega (arith, free c.before)
 
 pub slice_bounds-list_node-count : goal.slice_bounds-list_node-count
 slice_bounds-list_node-count c = omega (arith, free c.before)
@@ -68,7 +71,7 @@ loop-i-preserved c =
     let here = c.wide-at.ensures.0 ∙ c.stream_count.ensures in
     let room = free c.before.before.before.before.before.before.before in (
       omega arith,
-      rw (← l.invariant.1) c.limits-1.given.1,
+      same_len_mid l.at (length l.limits - l.at) l.limits c.list_node.new.limits c.list_node.auto.limits ∙ l.invariant.1,
       streams_next s l.i l.invariant.2 here,
       nodes_next s (limit_at s) a.limits.now l.limits c.list_node.new.limits l.i l.at
           (omega (arith, room, l.invariant.1, l.invariant.2))

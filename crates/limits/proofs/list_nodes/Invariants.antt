@@ -1,16 +1,11 @@
 -- `limits::list_nodes` meets its contract: the limits of the nodes passed stand in the table's front, the rest is as it was. Those of the
 -- next node go into the part of the table that is lent from `at` on.
 -- Assumes nothing.
-use Prim.Native.Nat.{◌≤◌, ◌-◌, ◌+◌}
-use mathlib.Core.Path.{◌≡◌, refl, sym, ◌∙◌}
-use native.Mathlib.Omega.{arith}
-use borrow.Author.Rules.{rules}
+use Prim.Native.Nat.{◌≤◌, ◌-◌}
+use mathlib.Core.Path.{◌≡◌}
 use lib.ListN.{length}
-use Rattle.theory.proofs.Overwriting.{lent_length}
-use Rattle.theory.proofs.Sums.{sum_to_none}
-use Rattle.model.specs.Sheet.{nodes, stream_count, streams_up_to}
-use Rattle.model.proofs.Sheet.NodeSums.{streams_next, streams_room}
-use Rattle.limits.proofs.Filled.{limit_at, nodes_filled, nodes_none, nodes_next}
+use Rattle.model.specs.Sheet.{streams_up_to}
+use Rattle.limits.proofs.Filled.{limit_at, nodes_filled}
 use Rattle.limits.proofs.list_nodes.Given as goal
 
 abbrev pub invariant-loop-i : goal.invariant-loop-i

@@ -1,12 +1,10 @@
 -- `limits::list_ranked` meets its contract: the streams that are passed are those ranked above the next, and their limits stand at their places.
 -- Assumes nothing.
-use Prim.Native.Nat.{◌≤◌, ◌<◌, ◌-◌}
-use mathlib.Core.Path.{◌≡◌, sym, ap, ◌∙◌}
+use Prim.Native.Nat.{◌<◌, ◌-◌}
+use mathlib.Core.Path.{◌≡◌, ap, ◌∙◌}
 use native.Mathlib.Omega.{arith}
-use borrow.Author.Rules.{rules}
 use native.Mathlib.Nat.{le_of_lt}
-use lib.ListN.{length, length-map, get_or}
-use lib.Seq.{length-take-le}
+use lib.ListN.{length, get_or}
 use Rattle.theory.proofs.Listing.{map_at}
 use Rattle.theory.proofs.Ordering.{ordered_has}
 use Rattle.model.specs.Sheet.{stream_count, period, jitter}
@@ -14,8 +12,8 @@ use Rattle.model.proofs.Sheet.ValidSheet.{valid_fits}
 use Rattle.interference.specs.InRange.{Ranges}
 use Rattle.verdicts.proofs.InRange.{own_shares, timing_ranges, stream_ranges}
 use Rattle.ranking.specs.Ranking.{ranked_before, rank_order, Numbers}
-use Rattle.limits.proofs.Filled.{limit_at, Stored, stored_none, stored_more, stored_all}
-use Rattle.limits.proofs.Passed.{rank_length, rank_on, limit_passed, passed_ranges, Passed, passed_none, passed_next, passed_one, passed_two}
+use Rattle.limits.proofs.Filled.{limit_at, stored_none, stored_more, stored_all}
+use Rattle.limits.proofs.Passed.{rank_length, rank_on, limit_passed, passed_ranges, passed_none, passed_next, passed_one, passed_two}
 use Rattle.limits.proofs.list_ranked.Goals as goal
 use Rattle.limits.proofs.list_ranked.Lts as lts
 use Rattle.limits.proofs.list_ranked.Tie as tie
@@ -61,7 +59,7 @@ timing-in c =
 -- Its place is in the table.
 free : (c : lts.After-wide tie.the-claims reads.Pre reads.Post goal.the-invariant-loop-i goal.the-decreases-loop-i tie.handed_clauses) → c.wide.result - 1 < length c.loop-i.limits
 free c =
-    let own = numbers c.before.before.before.before.before c.loop-i.i c.loop-i-test.true in
+    let own = numbers c.before.before.before c.loop-i.i c.loop-i-test.true in
     omega (arith, c.wide.ensures.0, own.0, own.1, c.loop-i.invariant.2.long, c.requires.valid.5)
 
 pub loop-i-init : goal.loop-i-init

@@ -1,5 +1,4 @@
 -- `limits::put_limits` meets its contract: the limits stand in the table's front, node by node. Assumes nothing.
-use borrow.Author.Rules.{rules}
 use Rattle.limits.proofs.Filled.{limits_listed}
 use Rattle.limits.proofs.put_limits.Goals as goal
 

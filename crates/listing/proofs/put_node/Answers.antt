@@ -1,13 +1,10 @@
 -- `listing::put_node` meets its contract: after j turns the lines of the node's first j streams are put.
 -- Assumes nothing.
-use Prim.Native.Nat.{pred, ◌≤◌, ◌-◌}
 use native.Mathlib.Omega.{arith}
 use mathlib.Core.Path.{◌≡◌}
 use borrow.Author.Rules.{rules}
-use Rattle.model.specs.Sheet.{word, running_number}
-use Rattle.digits.specs.Put.{Put}
-use Rattle.texts.specs.Text.{lines_to, wait_line, node_lines}
-use Rattle.digits.proofs.Putting.{nothing, same_size}
+use Rattle.texts.specs.Text.{lines_to, node_lines}
+use Rattle.digits.proofs.Putting.{nothing}
 use Rattle.texts.proofs.Lines.{next_line, wait_line_lem}
 use Rattle.listing.proofs.put_node.Goals as goal
 

@@ -1,16 +1,14 @@
 -- `listing::put_nodes` meets its contract: after k turns the lines of the first k nodes are put, and `from` counts their streams.
 -- Assumes nothing.
-use Prim.Native.Nat.{◌*◌, ◌≤◌, ◌-◌}
 use native.Mathlib.Omega.{arith}
-use mathlib.Core.Path.{◌≡◌, refl, sym, ◌∙◌}
+use mathlib.Core.Path.{refl, sym, ◌∙◌}
 use borrow.Author.Rules.{rules}
 use Rattle.theory.proofs.Sums.{sum_to_none}
-use Rattle.model.specs.Sheet.{stream_count, streams_up_to}
+use Rattle.model.specs.Sheet.{stream_count}
 use Rattle.model.proofs.Sheet.NodeSums.{streams_next}
-use Rattle.digits.specs.Put.{Put}
 use Rattle.texts.specs.Text.{lines_to, node_lines}
-use Rattle.digits.proofs.Putting.{nothing, same_size}
-use Rattle.texts.proofs.Lines.{next_line, before_next}
+use Rattle.digits.proofs.Putting.{nothing}
+use Rattle.texts.proofs.Lines.{next_line}
 use Rattle.listing.proofs.put_nodes.Goals as goal
 
 pub loop-k-init : goal.loop-k-init

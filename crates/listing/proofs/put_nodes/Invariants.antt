@@ -1,16 +1,10 @@
 -- `listing::put_nodes` meets its contract: after k turns the lines of the first k nodes are put, and `from` counts their streams.
 -- Assumes nothing.
 use Prim.Native.Nat.{◌*◌, ◌≤◌, ◌-◌}
-use native.Mathlib.Omega.{arith}
-use mathlib.Core.Path.{◌≡◌, refl, sym, ◌∙◌}
-use borrow.Author.Rules.{rules}
-use Rattle.theory.proofs.Sums.{sum_to_none}
-use Rattle.model.specs.Sheet.{stream_count, streams_up_to}
-use Rattle.model.proofs.Sheet.NodeSums.{streams_next}
+use mathlib.Core.Path.{◌≡◌}
+use Rattle.model.specs.Sheet.{streams_up_to}
 use Rattle.digits.specs.Put.{Put}
 use Rattle.texts.specs.Text.{lines_to, node_lines}
-use Rattle.digits.proofs.Putting.{nothing, same_size}
-use Rattle.texts.proofs.Lines.{next_line, before_next}
 use Rattle.listing.proofs.put_nodes.Given as goal
 
 abbrev pub invariant-loop-k : goal.invariant-loop-k

@@ -1,6 +1,5 @@
 -- `listing::put_wait` meets its contract: the parts of the line, one after the other.
 -- Assumes nothing.
-use borrow.Author.Rules.{rules}
 use Rattle.texts.specs.Text.{wait_line}
 use Rattle.digits.proofs.Putting.{then}
 use Rattle.listing.proofs.put_wait.Goals as goal

@@ -1,6 +1,5 @@
 -- `listing::put_waits` meets its contract: the head, the lines, and the parts of the line under them.
 -- Assumes nothing.
-use borrow.Author.Rules.{rules}
 use Rattle.texts.specs.Text.{wait_table}
 use Rattle.digits.proofs.Putting.{then}
 use Rattle.listing.proofs.put_waits.Goals as goal

@@ -4,8 +4,8 @@ use Prim.Native.Nat.{ℕ, pred, ◌≤◌, ◌*◌, ◌-◌, ◌+◌}
 use mathlib.Core.Path.{◌≡◌, refl, sym, ◌∙◌, ap, ap₂}
 use mathlib.Core.List.{List, ◌++◌}
 use native.Mathlib.Omega.{arith}
-use borrow.Author.Rules.{rules}
 use lib.ListN.{length, take, drop}
+use borrow.Rule.Slice.PartMut.{same_len_mid}
 use Rattle.theory.specs.Listing.{joined_from, replaced_at}
 use Rattle.theory.proofs.Listing.{joined_nil, joined_next}
 use Rattle.theory.proofs.Overwriting.{over_none, over_next, lent_length}
@@ -71,6 +71,9 @@ loop-i-init c =
 pub offset_bounds-room-at : goal.offset_bounds-room-at
 offset_bounds-room-at c = omega (arith, free c.before, c.well_formed)
 
+pub slice_bounds-write_body-start : goal.slice_bounds-write_body-start
+slice_bounds-write_body-start c = omega (arith, free c.before)
+
 pub slice_bounds-write_body-count : goal.slice_bounds-write_body-count
 slice_bounds-write_body-count c = omega (arith, free c.before)
 
@@ -89,7 +92,7 @@ loop-i-preserved c =
     let count = c.node_entry-count.ensures in
     let room = free c.before.before.before.before.before.before.before in (
       omega (arith, c.loop-i-test.true),
-      rw (← l.invariant.1) c.room-1.given.1,
+      same_len_mid l.at (length l.room - l.at) l.room c.write_body.new.body c.write_body.auto.body ∙ l.invariant.1,
       sum_to_more (node_entry a.counts.now) l.i l.invariant.2 (c.wide-before.ensures.0 ∙ count),
       omega (arith, l.invariant.3, c.wide-before.ensures.0, c.body_words-at.ensures.0),
       next-body a.counts.now a.periods.now a.deadlines.now a.jitters.now a.room.now l.room c.write_body.new.body l.i l.at a.n

@@ -1,20 +1,13 @@
 -- `parts::write_bodies` meets its contract: the bodies passed stand after the contents, the rest is as it was. The next is written
 -- into the part that is lent from its place on. Assumes nothing.
-use Prim.Native.Nat.{ℕ, pred, ◌≤◌, ◌*◌, ◌-◌, ◌+◌}
-use mathlib.Core.Path.{◌≡◌, refl, sym, ◌∙◌, ap, ap₂}
-use mathlib.Core.List.{List, ◌++◌}
-use native.Mathlib.Omega.{arith}
-use borrow.Author.Rules.{rules}
-use lib.ListN.{length, take, drop}
+use Prim.Native.Nat.{ℕ, ◌≤◌, ◌-◌}
+use mathlib.Core.Path.{◌≡◌}
+use mathlib.Core.List.{List}
+use lib.ListN.{length}
 use Rattle.theory.specs.Listing.{joined_from, replaced_at}
-use Rattle.theory.proofs.Listing.{joined_nil, joined_next}
-use Rattle.theory.proofs.Overwriting.{over_none, over_next, lent_length}
-use Rattle.theory.proofs.Sums.{sum_to_none, sum_to_more, sum_to_room}
-use Rattle.model.specs.Limits.{stream_words}
 use Rattle.model.specs.Sheet.{first_body_at, body_at}
 use Rattle.tables.specs.Tables.{node_entry, sum_up_to, counts_before}
 use Rattle.tables.specs.Writing.{body_of}
-use Rattle.tables.proofs.WrittenWords.{streams_length, bodies_length}
 use Rattle.parts.proofs.write_bodies.Given as goal
 
 -- The body of node k.

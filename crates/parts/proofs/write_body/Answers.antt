@@ -4,8 +4,8 @@ use Prim.Native.Nat.{ℕ, ◌≤◌, ◌*◌, ◌-◌, ◌+◌}
 use mathlib.Core.Path.{◌≡◌, refl, sym, ◌∙◌, ap}
 use mathlib.Core.List.{List, [], ◌∷◌, ◌++◌}
 use native.Mathlib.Omega.{arith}
-use borrow.Author.Rules.{rules}
 use lib.ListN.{length, take, drop}
+use borrow.Rule.Slice.PartMut.{same_len_mid}
 use Rattle.theory.specs.Listing.{replaced_at, put_front}
 use Rattle.theory.proofs.Listing.{joined_nil, joined_next}
 use Rattle.theory.proofs.Overwriting.{over_none, over_next, over_front, lent_length, put_fits}
@@ -60,7 +60,7 @@ loop-i-preserved c =
     let from = ap (λ n. a.before + n) c.wide.ensures.0 in
     let room = free c.before.before.before.before.before in (
       omega (arith, inside),
-      rw (← l.invariant.1) c.body-1.given.1,
+      same_len_mid c.body_words-at.result (length l.body - c.body_words-at.result) l.body c.put_stream.new.part c.put_stream.auto.part ∙ l.invariant.1,
       next-stream a.periods.now a.deadlines.now a.jitters.now a.body.now l.body c.put_stream.new.part a.before l.i _
           (omega (arith, e.requires.1, inside))
           room

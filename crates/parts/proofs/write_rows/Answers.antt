@@ -4,8 +4,8 @@ use Prim.Native.Nat.{ℕ, pred, ◌≤◌, ◌*◌, ◌-◌, ◌+◌}
 use mathlib.Core.Path.{◌≡◌, refl, sym, ◌∙◌, ap}
 use mathlib.Core.List.{List, [], ◌∷◌, ◌++◌}
 use native.Mathlib.Omega.{arith}
-use borrow.Author.Rules.{rules}
 use lib.ListN.{length, take, drop}
+use borrow.Rule.Slice.PartMut.{same_len_mid}
 use Rattle.theory.specs.Listing.{joined_from, replaced_at, put_front}
 use Rattle.theory.proofs.Listing.{joined_nil, joined_next}
 use Rattle.theory.proofs.Overwriting.{over_none, over_next, lent_length, put_fits}
@@ -78,7 +78,7 @@ loop-i-preserved c =
     let count = c.node_entry-count.ensures in
     let sum = sum_to_more (node_entry a.counts.now) l.i refl count in (
       omega (arith, c.loop-i-test.true),
-      rw (← l.invariant.1) c.room-1.given.1,
+      same_len_mid c.row_at-at.result (length l.room - c.row_at-at.result) l.room c.put_row.new.part c.put_row.auto.part ∙ l.invariant.1,
       omega (arith, l.invariant.2, sum, c.body_words-place.ensures.0),
       next_row a.counts.now a.budgets.now a.room.now l.room c.put_row.new.part l.i _
           (omega (arith, c.requires.3, c.loop-i-test.true))

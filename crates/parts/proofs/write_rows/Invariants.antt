@@ -1,20 +1,13 @@
 -- `parts::write_rows` meets its contract: the rows passed stand after the header, the rest is as it was, and the next body's place
 -- comes after the streams passed. Assumes nothing.
-use Prim.Native.Nat.{ℕ, pred, ◌≤◌, ◌*◌, ◌-◌, ◌+◌}
-use mathlib.Core.Path.{◌≡◌, refl, sym, ◌∙◌, ap}
-use mathlib.Core.List.{List, [], ◌∷◌, ◌++◌}
-use native.Mathlib.Omega.{arith}
-use borrow.Author.Rules.{rules}
-use lib.ListN.{length, take, drop}
-use Rattle.theory.specs.Listing.{joined_from, replaced_at, put_front}
-use Rattle.theory.proofs.Listing.{joined_nil, joined_next}
-use Rattle.theory.proofs.Overwriting.{over_none, over_next, lent_length, put_fits}
-use Rattle.theory.proofs.Sums.{sum_to_none, sum_to_more, sum_to_room}
-use Rattle.model.specs.Limits.{header_words, row_words, stream_words, longest_sheet}
-use Rattle.model.specs.Sheet.{row_at, body_at}
-use Rattle.tables.specs.Tables.{node_entry, sum_up_to}
+use Prim.Native.Nat.{◌≤◌, ◌-◌}
+use mathlib.Core.Path.{◌≡◌}
+use lib.ListN.{length}
+use Rattle.theory.specs.Listing.{joined_from, replaced_at}
+use Rattle.model.specs.Limits.{header_words}
+use Rattle.model.specs.Sheet.{body_at}
+use Rattle.tables.specs.Tables.{sum_up_to}
 use Rattle.tables.specs.Writing.{row_of}
-use Rattle.tables.proofs.WrittenWords.{rows_length}
 use Rattle.parts.proofs.write_rows.Given as goal
 
 abbrev pub invariant-loop-i : goal.invariant-loop-i

@@ -1,15 +1,10 @@
 -- `progress::list_begins` meets its contract: what is left to list from here makes the whole. Assumes nothing.
-use Prim.Native.Nat.{ℕ, ◌+◌, ◌-◌, ◌*◌, ◌≤◌, ◌<◌}
-use native.Mathlib.Nat.{add-zero}
-use native.Mathlib.Omega.{arith}
-use mathlib.Core.Path.{◌≡◌, refl, ◌∙◌}
-use lib.ListN.{length, set, take, drop, length-set}
-use lib.Seq.{length-take-le, get_or-take}
+use Prim.Native.Nat.{◌+◌, ◌-◌, ◌*◌, ◌≤◌}
+use mathlib.Core.Path.{◌≡◌}
+use lib.ListN.{length, take, drop}
 use Rattle.theory.specs.Listing.{replaced_at}
 use Rattle.model.specs.Limits.{release_words, max_slot_ticks}
-use Rattle.model.specs.Sheet.{word}
 use Rattle.model.specs.Trace.{begin_words}
-use Rattle.progress.proofs.Listing.{list_next, list_done}
 use Rattle.progress.proofs.list_begins.Given as goal
 
 abbrev pub invariant-loop-j : goal.invariant-loop-j

@@ -1,5 +1,4 @@
 -- `queue::arrived_by` meets its contract: from the first release that is after the tick on all are. Assumes nothing.
-use Prim.Native.Nat.{◌≤◌, ◌-◌}
 use native.Mathlib.Omega.{arith}
 use Rattle.queue.proofs.Arrivals.{rises_on}
 use Rattle.queue.proofs.arrived_by.Goals as goal

@@ -1,15 +1,12 @@
 -- `queue::look` meets its contract: at each release those found are the first ones of the queue of the releases before, and the release
 -- itself has not begun. Assumes nothing.
 use Prim.Native.Nat.{◌-◌, ◌≤◌, ◌<◌}
-use native.Mathlib.Omega.{arith}
-use mathlib.Core.Path.{◌≡◌, refl, sym, ap, ◌∙◌}
+use mathlib.Core.Path.{◌≡◌}
 use lib.ListN.{length}
 use Rattle.model.specs.Limits.{not_begun}
 use Rattle.model.specs.Sheet.{word, budget}
 use Rattle.model.specs.Protocol.{releases}
-use Rattle.model.proofs.Protocol.Waiting.{waiting_begun}
-use Rattle.ordering.specs.Ordering.{streams_as}
-use Rattle.queue.proofs.Search.{Looked, look_start, look_on, look_next, look_end, look_found}
+use Rattle.queue.proofs.Search.{Looked}
 use Rattle.queue.proofs.look.Given as goal
 
 abbrev pub invariant-loop-i : goal.invariant-loop-i

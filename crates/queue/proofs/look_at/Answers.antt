@@ -5,8 +5,7 @@ use mathlib.Core.Bool.{Bool, true, false, cond}
 use mathlib.Core.List.{List}
 use lib.Dec.{leb}
 use lib.ListN.{take}
-use borrow.Author.Tests.{lt-leb, le-leb}
-use borrow.Author.Rules.{rules}
+use borrow.Author.Tests.{le-leb}
 use Prim.Native.Nat.{ℕ}
 use Rattle.model.specs.Protocol.{release_tick, release_stream}
 use Rattle.model.proofs.Protocol.Queue.{of_node_reading, of_node_below, of_node-above_lem}

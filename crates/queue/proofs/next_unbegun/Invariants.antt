@@ -1,9 +1,7 @@
 -- `queue::next_unbegun` meets its contract: all releases passed have begun, and the one at which it stops has not.
 -- Assumes nothing.
 use Prim.Native.Nat.{◌≤◌, ◌-◌}
-use native.Mathlib.Omega.{arith}
 use Rattle.queue.specs.Queue.{BegunFrom}
-use Rattle.queue.proofs.Search.{begun_more}
 use Rattle.queue.proofs.next_unbegun.Given as goal
 
 abbrev pub invariant-loop-i : goal.invariant-loop-i

@@ -1,5 +1,4 @@
 -- `range::counts_outside` meets its contract: the first test holds, or the second is the answer. Assumes nothing.
-use borrow.Author.Rules.{rules}
 use borrow.Author.Tests.{lt-ltb, le-ltb}
 use mathlib.Core.Path.{sym}
 use Rattle.model.specs.Limits.{max_streams}

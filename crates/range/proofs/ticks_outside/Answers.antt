@@ -1,5 +1,4 @@
 -- `range::ticks_outside` meets its contract: the first test holds, or the second is the answer. Assumes nothing.
-use borrow.Author.Rules.{rules}
 use mathlib.Core.Path.{sym, ◌∙◌}
 use Rattle.model.specs.Sheet.{ticks_outside}
 use Rattle.theory.proofs.Tests.{or_first, or_second}

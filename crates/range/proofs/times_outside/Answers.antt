@@ -1,5 +1,4 @@
 -- `range::times_outside` meets its contract: the first test holds, or the second, or the third is the answer. Assumes nothing.
-use borrow.Author.Rules.{rules}
 use mathlib.Core.Path.{refl, sym, ◌∙◌}
 use Rattle.model.specs.Sheet.{times_outside}
 use Rattle.theory.proofs.Tests.{or_first, or_second}

@@ -1,12 +1,11 @@
 -- `rows::first_row` meets its contract: the words up to the present one are 1, and the others 0. Assumes nothing.
-use Prim.Native.Nat.{◌≤◌, ◌-◌}
+use Prim.Native.Nat.{◌≤◌}
 use mathlib.Core.Path.{◌≡◌, refl}
 use native.Mathlib.Omega.{arith}
-use borrow.Author.Rules.{rules}
 use Rattle.model.specs.Sheet.{nodes}
 use Rattle.model.proofs.Sheet.ValidSheet.{valid_fits}
 use Rattle.rounds.specs.Rounds.{first_row}
-use Rattle.rounds.proofs.Rows.{Making, made_word, made_row, zero_word}
+use Rattle.rounds.proofs.Rows.{made_word, made_row}
 use Rattle.rows.proofs.first_row.Goals as goal
 use Rattle.rows.proofs.first_row.Lts as lts
 use Rattle.rows.proofs.first_row.Tie as tie

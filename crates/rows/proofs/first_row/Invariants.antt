@@ -1,12 +1,6 @@
 -- `rows::first_row` meets its contract: the words up to the present one are 1, and the others 0. Assumes nothing.
 use Prim.Native.Nat.{◌≤◌, ◌-◌}
-use mathlib.Core.Path.{◌≡◌, refl}
-use native.Mathlib.Omega.{arith}
-use borrow.Author.Rules.{rules}
-use Rattle.model.specs.Sheet.{nodes}
-use Rattle.model.proofs.Sheet.ValidSheet.{valid_fits}
-use Rattle.rounds.specs.Rounds.{first_row}
-use Rattle.rounds.proofs.Rows.{Making, made_word, made_row, zero_word}
+use Rattle.rounds.proofs.Rows.{Making}
 use Rattle.rows.proofs.first_row.Given as goal
 
 abbrev pub invariant-loop-i : goal.invariant-loop-i

@@ -1,17 +1,16 @@
 -- `rows::node_late` meets its contract: what is left of the row of checks equals the whole. Assumes nothing.
-use Prim.Native.Nat.{ℕ, ◌≤◌, ◌-◌, ◌+◌}
-use mathlib.Core.Path.{◌≡◌, refl, sym, ap, ◌∙◌}
+use Prim.Native.Nat.{ℕ, ◌+◌}
+use mathlib.Core.Path.{refl, sym, ap, ◌∙◌}
 use mathlib.Core.Bool.{not}
 use mathlib.Core.List.{List}
 use native.Mathlib.Nat.{suc-ne-zero}
 use native.Mathlib.Omega.{arith}
-use borrow.Author.Rules.{rules}
 use borrow.Author.Tests.{eq-eqb, ne_eqb}
 use Rattle.model.specs.declared.Answer.{Answer}
 use Rattle.model.specs.Refusal.{first_of}
 use Rattle.model.specs.Analysis.{verdict_with}
 use Rattle.model.specs.Answers.{late_refusal, node_late_with}
-use Rattle.model.proofs.Sheet.Refusals.{rest, rest_start, rest_on, rest_stop, rest_end}
+use Rattle.model.proofs.Sheet.Refusals.{rest_start, rest_on, rest_stop, rest_end}
 use Rattle.model.proofs.Answers.ListedWaits.{late_refused, listed_accepted}
 use Rattle.rows.proofs.node_late.Goals as goal
 
@@ -40,7 +39,7 @@ pub loop-i-preserved : goal.loop-i-preserved
 loop-i-preserved c =
     let a = c.args in
     let l = c.loop-i in
-    let found = sym c.verdict_with.ensures ∙ c.enum_told-in-Listed-1.given.1 in (
+    let found = sym c.verdict_with.ensures ∙ c.in-Listed.is in (
       omega arith,
       rest_on (late_at a.sheet.now a.cycle a.budget a.k) l.i _ c.loop-i-test.true (listed_accepted a.k (l.i + 1) found) refl l.invariant.1,
     )

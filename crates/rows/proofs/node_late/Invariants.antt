@@ -1,18 +1,11 @@
 -- `rows::node_late` meets its contract: what is left of the row of checks equals the whole. Assumes nothing.
-use Prim.Native.Nat.{ℕ, ◌≤◌, ◌-◌, ◌+◌}
-use mathlib.Core.Path.{◌≡◌, refl, sym, ap, ◌∙◌}
-use mathlib.Core.Bool.{not}
+use Prim.Native.Nat.{ℕ, ◌≤◌, ◌-◌}
+use mathlib.Core.Path.{◌≡◌}
 use mathlib.Core.List.{List}
-use native.Mathlib.Nat.{suc-ne-zero}
-use native.Mathlib.Omega.{arith}
-use borrow.Author.Rules.{rules}
-use borrow.Author.Tests.{eq-eqb, ne_eqb}
 use Rattle.model.specs.declared.Answer.{Answer}
-use Rattle.model.specs.Refusal.{first_of}
 use Rattle.model.specs.Analysis.{verdict_with}
 use Rattle.model.specs.Answers.{late_refusal, node_late_with}
-use Rattle.model.proofs.Sheet.Refusals.{rest, rest_start, rest_on, rest_stop, rest_end}
-use Rattle.model.proofs.Answers.ListedWaits.{late_refused, listed_accepted}
+use Rattle.model.proofs.Sheet.Refusals.{rest}
 use Rattle.rows.proofs.node_late.Given as goal
 
 -- Refusal 7 of stream j.

@@ -1,8 +1,7 @@
 -- `rows::row_cycle` meets its contract: the sum is the definition's. Assumes nothing.
-use Prim.Native.Nat.{◌+◌, ◌*◌}
+use Prim.Native.Nat.{◌*◌}
 use mathlib.Core.Path.{◌≡◌, ap₂}
 use native.Mathlib.Omega.{arith}
-use borrow.Author.Rules.{rules}
 use Rattle.model.specs.Sheet.{nodes, message_ticks, slot_ticks}
 use Rattle.model.proofs.Sheet.ValidSheet.{valid_fits}
 use Rattle.rounds.specs.Rounds.{row_sum}

@@ -1,12 +1,7 @@
 -- `rows::row_sum` meets its contract: the sum up to each node is the definition's. Assumes nothing.
-use Prim.Native.Nat.{pred, ◌≤◌, ◌-◌, ◌+◌, ◌*◌}
-use mathlib.Core.Path.{◌≡◌, sym, ap}
-use native.Mathlib.Omega.{arith}
-use borrow.Author.Rules.{rules}
+use Prim.Native.Nat.{◌≤◌, ◌-◌, ◌*◌}
+use mathlib.Core.Path.{◌≡◌}
 use Rattle.theory.specs.Sum.{sum_to}
-use Rattle.theory.proofs.Sums.{sum_to_none, sum_to_more}
-use Rattle.model.specs.Sheet.{word, nodes}
-use Rattle.model.proofs.Sheet.ValidSheet.{valid_fits}
 use Rattle.rounds.specs.Rounds.{budget_in}
 use Rattle.rows.proofs.row_sum.Given as goal
 

@@ -1,5 +1,4 @@
 -- `runs::move_on` meets its contract: the record after the turn is in range, and the silent turns are passed from there. Assumes nothing.
-use borrow.Author.Rules.{rules}
 use Rattle.turns.proofs.TurnSteps.{next_valid, next_turns}
 use Rattle.runs.proofs.move_on.Goals as goal
 

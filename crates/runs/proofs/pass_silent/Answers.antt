@@ -1,9 +1,7 @@
 -- `runs::pass_silent` meets its contract: while a message waits, or at the horizon, nothing is passed; else the turns up to the next
 -- release are silent. Assumes nothing.
-use native.Mathlib.Omega.{arith}
-use borrow.Author.Rules.{rules}
 use Rattle.queue.specs.Queue.{FirstUnbegun}
-use Rattle.runs.proofs.RunSteps.{moved_on, quiet_front, passed_none, passed_idle, ahead_passed}
+use Rattle.runs.proofs.RunSteps.{moved_on, quiet_front, passed_idle, ahead_passed}
 use Rattle.runs.proofs.pass_silent.Goals as goal
 use Rattle.runs.proofs.pass_silent.Lts as lts
 use Rattle.runs.proofs.pass_silent.Tie as tie

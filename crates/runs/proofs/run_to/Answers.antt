@@ -1,12 +1,7 @@
 -- `runs::run_to` meets its contract: the rest of the run from the position equals the whole. Each turn moves the clock, so what is
 -- left to the horizon falls. Assumes nothing.
-use Prim.Native.Nat.{◌+◌, ◌-◌}
-use mathlib.Core.Path.{◌≡◌, refl, ◌∙◌}
-use native.Mathlib.Omega.{arith}
-use borrow.Author.Rules.{rules}
-use lib.ListN.{length}
-use Rattle.model.specs.Protocol.{replayed}
-use Rattle.runs.proofs.RunSteps.{UnderWay, under_way_start, under_way_turn, under_way_again, under_way_done}
+use mathlib.Core.Path.{refl, ◌∙◌}
+use Rattle.runs.proofs.RunSteps.{under_way_start, under_way_turn, under_way_again, under_way_done}
 use Rattle.runs.proofs.run_to.Goals as goal
 
 pub loop-p-init : goal.loop-p-init
@@ -53,4 +48,5 @@ loop-p-preserved c =
 pub returns : goal.returns
 returns c =
     let a = c.args in
-    under_way_done a.sheet.now a.log.now a.horizon c.loop-p-test.false c.loop-p.invariant.1
+    let done = under_way_done a.sheet.now a.log.now a.horizon c.loop-p-test.false c.loop-p.invariant.1 in
+    record { «record» = done.0; begins = done.1 }

@@ -1,12 +1,10 @@
 -- `runs::run_to` meets its contract: the rest of the run from the position equals the whole. Each turn moves the clock, so what is
 -- left to the horizon falls. Assumes nothing.
 use Prim.Native.Nat.{◌+◌, ◌-◌}
-use mathlib.Core.Path.{◌≡◌, refl, ◌∙◌}
-use native.Mathlib.Omega.{arith}
-use borrow.Author.Rules.{rules}
+use mathlib.Core.Path.{◌≡◌}
 use lib.ListN.{length}
 use Rattle.model.specs.Protocol.{replayed}
-use Rattle.runs.proofs.RunSteps.{UnderWay, under_way_start, under_way_turn, under_way_again, under_way_done}
+use Rattle.runs.proofs.RunSteps.{UnderWay}
 use Rattle.runs.proofs.run_to.Given as goal
 
 abbrev pub invariant-loop-p : goal.invariant-loop-p

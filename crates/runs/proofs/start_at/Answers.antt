@@ -1,7 +1,6 @@
 -- `runs::start_at` meets its contract: a replay starts with node 1 of a valid sheet, and nothing has begun. Assumes nothing.
 use Prim.Native.Nat.{zero-le}
 use native.Mathlib.Nat.{not-suc-le-zero}
-use borrow.Author.Rules.{rules}
 use Rattle.runs.proofs.RunSteps.{first_valid}
 use Rattle.runs.proofs.start_at.Goals as goal
 

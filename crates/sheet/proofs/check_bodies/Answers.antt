@@ -1,11 +1,7 @@
 -- `sheet::check_bodies` meets its contract: what is left of the row of checks equals the whole.
 -- Assumes nothing.
-use Prim.Native.Nat.{◌≤◌, ◌-◌}
-use mathlib.Core.Path.{◌≡◌}
 use native.Mathlib.Omega.{arith}
-use borrow.Author.Rules.{rules}
-use Rattle.model.proofs.Sheet.Refusals.{rest, rest_start, rest_on, rest_stop, rest_end}
-use Rattle.model.specs.Refusal.{first_of}
+use Rattle.model.proofs.Sheet.Refusals.{rest_on, rest_stop, rest_end}
 use Rattle.model.specs.Sheet.{body_refusal}
 use Rattle.sheet.proofs.check_bodies.Goals as goal
 

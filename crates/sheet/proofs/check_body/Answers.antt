@@ -1,10 +1,9 @@
 -- `sheet::check_body` meets its contract: what is left of the row of checks equals the whole.
 -- Assumes nothing.
-use Prim.Native.Nat.{◌≤◌, ◌-◌}
-use mathlib.Core.Path.{◌≡◌, ◌∙◌, ap}
+use mathlib.Core.Path.{◌∙◌, ap}
 use native.Mathlib.Omega.{arith}
 use borrow.Author.Rules.{rules}
-use Rattle.model.proofs.Sheet.Refusals.{rest, rest_start, rest_on, rest_stop, rest_end}
+use Rattle.model.proofs.Sheet.Refusals.{rest_start, rest_on, rest_stop, rest_end}
 use Rattle.model.specs.Refusal.{first_of}
 use Rattle.model.specs.Sheet.{stream_refusal, body_refusal}
 use Rattle.sheet.proofs.check_body.Goals as goal

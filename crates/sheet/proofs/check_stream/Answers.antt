@@ -1,5 +1,4 @@
 -- `sheet::check_stream` meets its contract: the test is the definition's. Assumes nothing.
-use borrow.Author.Rules.{rules}
 use Rattle.model.specs.Sheet.{stream_refusal}
 use Rattle.sheet.proofs.check_stream.Goals as goal
 

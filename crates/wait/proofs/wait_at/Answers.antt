@@ -3,8 +3,7 @@ use Prim.Native.Nat.{pred, ◌*◌}
 use mathlib.Core.Path.{◌≡◌, ap₂, ◌∙◌}
 use native.Mathlib.Numerals.{sub-one}
 use native.Mathlib.Omega.{arith}
-use borrow.Author.Rules.{rules}
-use Rattle.wait.proofs.WaitBounds.{place_least, place_most, window_least, ticks_most, wait_exact}
+use Rattle.wait.proofs.WaitBounds.{place_least, ticks_most, wait_exact}
 use Rattle.wait.proofs.wait_at.Goals as goal
 use Rattle.wait.proofs.wait_at.Lts as lts
 use Rattle.wait.proofs.wait_at.Tie as tie

@@ -3,7 +3,6 @@ use Prim.Native.Nat.{◌+◌, ◌*◌, ◌/◌, ◌<◌}
 use mathlib.Core.Path.{sym, ap, ap₂, ◌∙◌}
 use native.Mathlib.Nat.{div-lt_iff_lt-mul}
 use native.Mathlib.Omega.{arith}
-use borrow.Author.Rules.{rules}
 use Rattle.interference.specs.Jump.{scale, ahead_by}
 use Rattle.interference.proofs.Split.{ahead_within, ahead_past, ahead_none}
 use Rattle.interference.proofs.jump.ahead_by.Goals as goal

@@ -3,7 +3,6 @@ use Prim.Native.Nat.{◌+◌}
 use mathlib.Core.Path.{sym, ◌∙◌}
 use native.Mathlib.Nat.{div-le_self}
 use native.Mathlib.Omega.{arith}
-use borrow.Author.Rules.{rules}
 use Rattle.model.specs.Analysis.{most_releases}
 use Rattle.interference.proofs.Split.{held_past, held_within}
 use Rattle.interference.proofs.jump.held_by.Goals as goal

@@ -1,9 +1,8 @@
 -- `interference::jump::next_try` meets its contract: the plain jump goes on by one at least, and no jump passes a number that suffices.
 -- Assumes nothing.
-use Prim.Native.Nat.{◌/◌, ◌+◌, ◌-◌, ◌*◌, ◌≤◌, ◌<◌}
-use native.Mathlib.Nat.{mul-le-mul, div-le_self, le-div_iff_mul-le}
+use Prim.Native.Nat.{◌+◌, ◌-◌, ◌*◌, ◌≤◌}
+use native.Mathlib.Nat.{mul-le-mul, div-le_self}
 use native.Mathlib.Omega.{arith}
-use borrow.Author.Rules.{rules}
 use Rattle.model.specs.Limits.{max_time}
 use Rattle.model.proofs.Analysis.Jump.{plain_jump}
 use Rattle.interference.proofs.Periods.{by_grows, by_most}

@@ -3,7 +3,6 @@ use Prim.Native.Nat.{◌*◌, ◌/◌}
 use mathlib.Core.Path.{sym, ap₂, ◌∙◌}
 use native.Mathlib.Nat.{div-le_self}
 use native.Mathlib.Omega.{arith}
-use borrow.Author.Rules.{rules}
 use Rattle.interference.specs.Jump.{scale}
 use Rattle.interference.proofs.Split.{rated_past, rated_within}
 use Rattle.interference.proofs.jump.rated_by.Goals as goal

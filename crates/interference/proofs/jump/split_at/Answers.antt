@@ -1,15 +1,9 @@
 -- `interference::jump::split_at` meets its contract: each sum so far is that over the streams so far. Assumes nothing.
-use Prim.Native.Nat.{◌≤◌, ◌-◌, ◌+◌, ◌*◌}
-use mathlib.Core.Path.{◌≡◌, sym, ap, ap₂, ◌∙◌}
+use mathlib.Core.Path.{sym, ap, ap₂, ◌∙◌}
 use native.Mathlib.Omega.{arith}
-use borrow.Author.Rules.{rules}
-use lib.ListN.{length}
-use Rattle.theory.specs.Sum.{sum_to}
 use Rattle.theory.proofs.Sums.{sum_to_none, sum_to_more}
-use Rattle.model.specs.Limits.{max_time}
 use Rattle.interference.specs.Periods.{entry}
-use Rattle.interference.specs.InRange.{max_cycle}
-use Rattle.interference.specs.Jump.{scale, held_by, rated_by, ahead_by}
+use Rattle.interference.specs.Jump.{held_by, rated_by, ahead_by}
 use Rattle.interference.proofs.Periods.{next_entry}
 use Rattle.interference.proofs.jump.split_at.Goals as goal
 

@@ -1,16 +1,12 @@
 -- `interference::jump::split_at` meets its contract: each sum so far is that over the streams so far. Assumes nothing.
 use Prim.Native.Nat.{◌≤◌, ◌-◌, ◌+◌, ◌*◌}
-use mathlib.Core.Path.{◌≡◌, sym, ap, ap₂, ◌∙◌}
-use native.Mathlib.Omega.{arith}
-use borrow.Author.Rules.{rules}
+use mathlib.Core.Path.{◌≡◌}
 use lib.ListN.{length}
 use Rattle.theory.specs.Sum.{sum_to}
-use Rattle.theory.proofs.Sums.{sum_to_none, sum_to_more}
 use Rattle.model.specs.Limits.{max_time}
 use Rattle.interference.specs.Periods.{entry}
 use Rattle.interference.specs.InRange.{max_cycle}
 use Rattle.interference.specs.Jump.{scale, held_by, rated_by, ahead_by}
-use Rattle.interference.proofs.Periods.{next_entry}
 use Rattle.interference.proofs.jump.split_at.Given as goal
 
 abbrev pub invariant-loop-i : goal.invariant-loop-i

@@ -1,9 +1,7 @@
 -- `interference::jump::split_jump` meets its contract: the split at the reach bounds the interference from below. Assumes nothing.
-use Prim.Native.Nat.{◌+◌, ◌-◌, ◌*◌, ◌≤◌}
-use native.Mathlib.Nat.{div-le_self, one-le-mul}
+use Prim.Native.Nat.{◌-◌, ◌*◌}
 use mathlib.Core.Path.{ap, ◌∙◌}
 use native.Mathlib.Omega.{arith}
-use borrow.Author.Rules.{rules}
 use Rattle.interference.specs.Jump.{scale}
 use Rattle.interference.proofs.Split.{split_below, split_next}
 use Rattle.interference.proofs.jump.split_jump.Goals as goal

@@ -1,8 +1,5 @@
 -- `wait::near::is_late_at` meets its contract: no sum passes 32 bits, as the cycles are few. Assumes nothing.
-use native.Mathlib.Nat.{mul-le-mul}
-use native.Mathlib.Omega.{arith}
 use mathlib.Core.Path.{refl}
-use borrow.Author.Rules.{rules}
 use Rattle.model.specs.Analysis.{late_at}
 use Rattle.wait.proofs.near.is_late_at.Goals as goal
 

@@ -2,7 +2,6 @@
 use native.Mathlib.Omega.{arith}
 use native.Mathlib.Nat.{le_refl}
 use mathlib.Core.Path.{sym, ◌∙◌}
-use borrow.Author.Rules.{rules}
 use Rattle.interference.specs.Periods.{interference_by}
 use Rattle.interference.specs.InRange.{FoundJ}
 use Rattle.model.proofs.Analysis.Wait.{in_time_worth}

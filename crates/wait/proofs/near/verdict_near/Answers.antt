@@ -2,7 +2,6 @@
 use native.Mathlib.Omega.{arith}
 use native.Mathlib.Nat.{le_refl}
 use mathlib.Core.Path.{sym, ◌∙◌}
-use borrow.Author.Rules.{rules}
 use Rattle.interference.specs.Periods.{interference_by}
 use Rattle.interference.specs.InRange.{FoundJ}
 use Rattle.wait.proofs.FirstTries.{none_below_one, late_near, found_first, listed_near, one_cycle}

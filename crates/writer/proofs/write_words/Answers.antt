@@ -11,9 +11,7 @@ use Rattle.model.specs.Sheet.{first_body_at, body_at}
 use Rattle.tables.specs.Tables.{Tables, lent_tables, sum_of}
 use Rattle.tables.specs.Writing.{header_of, rows_of, bodies_of, written}
 use Rattle.tables.proofs.WrittenWords.{rows_length}
-use borrow.Author.Rules.{rules}
-use Rattle.writer.proofs.write_words.Statement.{statement}
-use Rattle.writer.proofs.write_words.Tie as tie
+use Rattle.writer.proofs.write_words.Goals as goal
 
 -- The three parts, one after the other.
 parts-written : (t : Tables) (room one two three : List ℕ)
@@ -37,34 +35,8 @@ parts-written t room one two three fits header rows bodies =
     ∙ over_more room 0 (header_of t ++ rows_of t) (omega (arith, fits, long, both)) (bodies_of t)
     ∙ over_front room (header_of t ++ rows_of t ++ bodies_of t)
 
-cast-n : tie.Need-overflow-cast-n
-cast-n c = search rules
-
-put-header-requires : tie.Need-put-header-requires
-put-header-requires c κs = search rules
-
-write-rows-requires : tie.Need-write-rows-requires
-write-rows-requires c κs = search rules
-
-write-bodies-requires : tie.Need-write-bodies-requires
-write-bodies-requires c κs = search rules
-
-same_length : tie.Need-same-length
-same_length c = search rules
-
-returns : tie.Need-returns
+pub returns : goal.returns
 returns c =
-    let a = c.before.before.before.before.before.before.before.before.before.before.before.before.before.before.before.before.before.before.args in
+    let a = c.args in
     let t = lent_tables a.message a.slot a.counts.now a.budgets.now a.periods.now a.deadlines.now a.jitters.now in
-    parts-written t a.room.now _ _ _ c.before.before.before.before.before.before.before.before.before.before.before.before.before.before.before.before.before.before.requires.2 c.before.before.before.before.before.before.before.before.before.before.put-header.ensures c.before.before.before.before.before.before.write-rows.ensures c.before.before.write-bodies.ensures
-
-pub write-words-spec : {M : Type 1} → statement M
-write-words-spec =
-    tie.close
-    (tie.spec
-    cast-n
-    put-header-requires
-    write-rows-requires
-    write-bodies-requires
-    same_length
-    returns)
+    parts-written t a.room.now _ _ _ c.requires.2 c.put_header.ensures c.write_rows.ensures c.write_bodies.ensures

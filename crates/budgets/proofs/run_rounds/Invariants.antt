@@ -1,0 +1,15 @@
+-- `budgets::run_rounds` meets its contract: the rounds from the present row on end where all of them do, and the room is as it was.
+-- Assumes nothing.
+use Prim.Native.Nat.{◌-◌, ◌+◌, ◌*◌}
+use mathlib.Core.Path.{◌≡◌}
+use Rattle.model.specs.Limits.{max_budget}
+use Rattle.model.specs.Sheet.{nodes}
+use Rattle.rounds.specs.Rounds.{row_sum}
+use Rattle.budgets.proofs.Running.{Running}
+use Rattle.budgets.proofs.run_rounds.Given as goal
+
+abbrev pub invariant-loop-row : goal.invariant-loop-row
+invariant-loop-row l = (l.room ≡ l.initial.room) × Running l.sheet l.row
+
+abbrev pub decreases-loop-row : goal.decreases-loop-row
+decreases-loop-row l = nodes l.sheet * max_budget + 1 - row_sum l.sheet l.row
