@@ -2,8 +2,8 @@
 use Prim.Native.Nat.{ℕ, suc, ◌+◌, ◌-◌, ◌*◌, ◌≤◌}
 use native.Mathlib.Omega.{arith}
 use mathlib.Core.Path.{◌≡◌, sym, ◌∙◌, ap, ap₂}
-use mathlib.Core.List.{List, ◌++◌, map}
-use lib.ListN.{length, take, drop, length-map}
+use mathlib.Core.List.{List, ◌++◌}
+use lib.ListN.{length, take, drop}
 use lib.Seq.{take_at}
 use mir.Val.{Val}
 use denote.Laws.{Is}
@@ -20,13 +20,7 @@ use Rattle.pieces.specs.contracts.Checkpoint.{the_type}
 
 -- The three tables of a record have all their places: what a function is told of a record that it is handed.
 pub places : (c : Checkpoint) (vs : List Val) → Is (row the_type) c vs → (length c.numbers ≡ max_waiting) × (length c.ticks ≡ max_waiting) × (length c.streams ≡ max_waiting)
-places c vs is =
-    let tables = is.1.1.1.1.1.1 in
-    let same : (xs : List ℕ) → length (map (λ v. v) xs) ≡ length xs = λ xs. length-map xs (λ v. v) in (
-      sym (same c.numbers) ∙ tables.0.1.0.1,
-      sym (same c.ticks) ∙ tables.1.0.1.0.1,
-      sym (same c.streams) ∙ tables.1.1.0.1.0.1,
-    )
+places c vs is = let tables = is.1.1.1.1.1.1 in (tables.0.1.0.1, tables.1.0.1.0.1, tables.1.1.0.1.0.1)
 
 -- The release numbers of those that wait stand before those written after them.
 pub opened_numbers : (xs : List ℕ) (at waiting before count : ℕ) {ys : List ℕ}

@@ -1,6 +1,5 @@
 -- `analysis::answer_of` meets its contract: each arm is a clause of the definition.
 -- Assumes nothing.
-use borrow.Author.Rules.{rules}
 use mathlib.Core.Path.{refl}
 use Rattle.model.specs.Answers.{verdict_answer}
 use Rattle.analysis.proofs.answer_of.Goals as goal

@@ -1,6 +1,5 @@
 -- `entries::check_row` meets its contract: the test is the definition's. Assumes nothing.
 use Rattle.tables.specs.Writing.{table_row_refusal}
-use borrow.Author.Rules.{rules}
 use Rattle.entries.proofs.check_row.Goals as goal
 
 pub returns : goal.returns

@@ -1,10 +1,8 @@
 -- `entries::check_rows` meets its contract: what is left of the row of checks equals the whole. Assumes nothing.
 use Prim.Native.Nat.{◌≤◌, ◌-◌}
 use mathlib.Core.Path.{◌≡◌}
-use native.Mathlib.Omega.{arith}
-use borrow.Author.Rules.{rules}
 use Rattle.model.specs.Refusal.{first_of}
-use Rattle.model.proofs.Sheet.Refusals.{rest, rest_start, rest_on, rest_stop, rest_end}
+use Rattle.model.proofs.Sheet.Refusals.{rest}
 use Rattle.tables.specs.Writing.{table_row_refusal}
 use Rattle.entries.proofs.check_rows.Given as goal
 

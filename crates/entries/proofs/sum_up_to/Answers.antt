@@ -1,10 +1,8 @@
 -- `entries::sum_up_to` meets its contract: the sum so far is that of the nodes passed. Assumes nothing.
-use Prim.Native.Nat.{◌≤◌, ◌*◌, ◌-◌}
-use mathlib.Core.Path.{◌≡◌, sym, ◌∙◌}
+use mathlib.Core.Path.{sym, ◌∙◌}
 use native.Mathlib.Omega.{arith}
-use borrow.Author.Rules.{rules}
 use Rattle.theory.proofs.Sums.{sum_to_none, sum_to_more}
-use Rattle.tables.specs.Tables.{node_entry, sum_up_to}
+use Rattle.tables.specs.Tables.{node_entry}
 use Rattle.entries.proofs.sum_up_to.Goals as goal
 
 pub loop-i-init : goal.loop-i-init

@@ -1,6 +1,5 @@
 -- `log::check_input` meets its contract: each part's answer is the chain's where it refuses, and hands on to the next where
 -- it does not. Assumes nothing.
-use borrow.Author.Rules.{rules}
 use mathlib.Core.Path.{refl}
 use Rattle.model.specs.Answers.{room_refusal}
 use Rattle.model.proofs.Sheet.Refusals.{refused, passed}

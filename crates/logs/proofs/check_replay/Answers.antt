@@ -1,5 +1,4 @@
 -- `log::check_replay` meets its contract: the check of its own in the chain is the definition's. Assumes nothing.
-use borrow.Author.Rules.{rules}
 use Rattle.model.specs.Answers.{horizon_refusal}
 use Rattle.logs.specs.Replay.{replay_refusal}
 use Rattle.logs.proofs.check_replay.Goals as goal

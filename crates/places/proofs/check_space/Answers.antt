@@ -1,6 +1,5 @@
 -- `places::check_space` meets its contract: each part's answer is the chain's where it refuses, and hands on to the next where it
 -- does not. Assumes nothing.
-use borrow.Author.Rules.{rules}
 use Rattle.model.specs.Answers.{room_refusal}
 use Rattle.model.proofs.Sheet.Refusals.{refused, passed}
 use Rattle.places.proofs.check_space.Goals as goal

@@ -1,12 +1,9 @@
 -- `places::check_waiting` meets its contract: what is left of the row of checks equals the whole. Assumes nothing.
-use Prim.Native.Nat.{pred, ◌≤◌, ◌+◌, ◌-◌}
+use Prim.Native.Nat.{pred, ◌+◌}
 use mathlib.Core.Path.{◌≡◌}
 use native.Mathlib.Omega.{arith}
-use borrow.Author.Rules.{rules}
-use Rattle.model.specs.Refusal.{first_of}
-use Rattle.model.specs.Sheet.{total_streams}
 use Rattle.model.specs.Answers.{waiting_refusal}
-use Rattle.model.proofs.Sheet.Refusals.{rest, rest_start, rest_on, rest_stop, rest_end}
+use Rattle.model.proofs.Sheet.Refusals.{rest_on, rest_stop, rest_end}
 use Rattle.places.proofs.check_waiting.Goals as goal
 use Rattle.places.proofs.check_waiting.Lts as lts
 use Rattle.places.proofs.check_waiting.Tie as tie

@@ -1,10 +1,8 @@
 -- `places::put_numbers` meets its contract: what is left to write from here makes the whole. Assumes nothing.
-use Prim.Native.Nat.{suc, ◌+◌, ◌-◌, ◌≤◌}
-use native.Mathlib.Nat.{add-zero, sub-zero}
+use Prim.Native.Nat.{◌+◌}
 use native.Mathlib.Omega.{arith}
-use mathlib.Core.Path.{◌≡◌, refl, ◌∙◌}
-use lib.ListN.{length, length-set}
-use Rattle.theory.specs.Listing.{values_from, replaced_at}
+use mathlib.Core.Path.{◌∙◌}
+use lib.ListN.{length-set}
 use Rattle.places.proofs.Writing.{numbers_next, numbers_done}
 use Rattle.places.proofs.put_numbers.Goals as goal
 

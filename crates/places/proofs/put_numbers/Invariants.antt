@@ -1,11 +1,8 @@
 -- `places::put_numbers` meets its contract: what is left to write from here makes the whole. Assumes nothing.
 use Prim.Native.Nat.{suc, ◌+◌, ◌-◌, ◌≤◌}
-use native.Mathlib.Nat.{add-zero, sub-zero}
-use native.Mathlib.Omega.{arith}
-use mathlib.Core.Path.{◌≡◌, refl, ◌∙◌}
-use lib.ListN.{length, length-set}
+use mathlib.Core.Path.{◌≡◌}
+use lib.ListN.{length}
 use Rattle.theory.specs.Listing.{values_from, replaced_at}
-use Rattle.places.proofs.Writing.{numbers_next, numbers_done}
 use Rattle.places.proofs.put_numbers.Given as goal
 
 abbrev pub invariant-loop-i : goal.invariant-loop-i

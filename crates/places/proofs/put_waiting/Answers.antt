@@ -1,17 +1,14 @@
 -- `places::put_waiting` meets its contract: the messages passed stand as a log, the rest is as it was. Assumes nothing.
-use Prim.Native.Nat.{ℕ, ◌+◌, ◌-◌, ◌*◌, ◌≤◌}
+use Prim.Native.Nat.{ℕ, ◌+◌, ◌*◌, ◌≤◌}
 use native.Mathlib.Omega.{arith}
-use mathlib.Core.Path.{◌≡◌, refl, sym, ◌∙◌, ap}
+use mathlib.Core.Path.{refl, sym, ◌∙◌, ap}
 use mathlib.Core.List.{◌++◌}
-use lib.ListN.{length, set, drop, length-set}
-use Rattle.theory.specs.Listing.{joined_from}
+use lib.ListN.{length, set, length-set}
 use Rattle.theory.proofs.Listing.{joined_nil}
-use Rattle.model.specs.Limits.{release_words}
 use Rattle.model.specs.Sheet.{word}
 use Rattle.places.proofs.Writing.{pair, pairs_next}
 use Rattle.places.proofs.put_waiting.Goals as goal
 use Rattle.places.proofs.put_waiting.Lts as lts
-use Rattle.places.proofs.put_waiting.Tie as tie
 use Rattle.places.proofs.put_waiting.Reads as reads
 
 -- there is room for both words

@@ -1,14 +1,11 @@
 -- `places::put_waiting` meets its contract: the messages passed stand as a log, the rest is as it was. Assumes nothing.
-use Prim.Native.Nat.{ℕ, ◌+◌, ◌-◌, ◌*◌, ◌≤◌}
-use native.Mathlib.Omega.{arith}
-use mathlib.Core.Path.{◌≡◌, refl, sym, ◌∙◌, ap}
+use Prim.Native.Nat.{◌-◌, ◌*◌, ◌≤◌}
+use mathlib.Core.Path.{◌≡◌}
 use mathlib.Core.List.{◌++◌}
-use lib.ListN.{length, set, drop, length-set}
+use lib.ListN.{length, drop}
 use Rattle.theory.specs.Listing.{joined_from}
-use Rattle.theory.proofs.Listing.{joined_nil}
 use Rattle.model.specs.Limits.{release_words}
-use Rattle.model.specs.Sheet.{word}
-use Rattle.places.proofs.Writing.{pair, pairs_next}
+use Rattle.places.proofs.Writing.{pair}
 use Rattle.places.proofs.put_waiting.Given as goal
 
 abbrev pub invariant-loop-i : goal.invariant-loop-i

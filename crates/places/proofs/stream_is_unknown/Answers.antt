@@ -1,6 +1,5 @@
 -- `places::stream_is_unknown` meets its contract: the branch decides the definition's first test, and the second is returned.
 -- Assumes nothing.
-use borrow.Author.Rules.{rules}
 use borrow.Author.Tests.{lt-ltb, le-ltb}
 use mathlib.Core.Path.{refl}
 use Rattle.model.specs.Refusal.{outside}

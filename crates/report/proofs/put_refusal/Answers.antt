@@ -1,6 +1,5 @@
 -- `report::put_refusal` meets its contract: the parts of the line, one after the other.
 -- Assumes nothing.
-use borrow.Author.Rules.{rules}
 use Rattle.texts.specs.Text.{refusal_text}
 use Rattle.digits.proofs.Putting.{then}
 use Rattle.report.proofs.put_refusal.Goals as goal

@@ -2,7 +2,6 @@
 -- word, so it is no longer than the longest.
 -- Assumes nothing.
 use native.Mathlib.Omega.{arith}
-use borrow.Author.Rules.{rules}
 use lib.ListN.{length}
 use Prim.Native.Nat.{◌≤◌}
 use Rattle.model.specs.Limits.{max_releases}

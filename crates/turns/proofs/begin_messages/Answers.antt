@@ -1,12 +1,9 @@
 -- `turns::begin_messages` meets its contract: what is left to begin from here makes the whole. Assumes nothing.
-use Prim.Native.Nat.{◌+◌, ◌-◌, ◌*◌, ◌≤◌, ◌<◌}
 use native.Mathlib.Omega.{arith}
-use mathlib.Core.Path.{◌≡◌, refl, ◌∙◌}
-use lib.ListN.{length, take, drop, length-set}
+use mathlib.Core.Path.{◌≡◌, ◌∙◌}
+use lib.ListN.{take, length-set}
 use lib.Seq.{length-take-le, get_or-take}
-use Rattle.model.specs.Limits.{max_slot_ticks}
 use Rattle.model.specs.Sheet.{word}
-use Rattle.model.specs.Protocol.{begins_from}
 use Rattle.turns.proofs.TurnSteps.{begins_next, begins_done}
 use Rattle.turns.proofs.begin_messages.Goals as goal
 use Rattle.turns.proofs.begin_messages.Lts as lts

@@ -1,13 +1,9 @@
 -- `turns::begin_messages` meets its contract: what is left to begin from here makes the whole. Assumes nothing.
-use Prim.Native.Nat.{◌+◌, ◌-◌, ◌*◌, ◌≤◌, ◌<◌}
-use native.Mathlib.Omega.{arith}
-use mathlib.Core.Path.{◌≡◌, refl, ◌∙◌}
-use lib.ListN.{length, take, drop, length-set}
-use lib.Seq.{length-take-le, get_or-take}
+use Prim.Native.Nat.{◌+◌, ◌-◌, ◌*◌, ◌≤◌}
+use mathlib.Core.Path.{◌≡◌}
+use lib.ListN.{length, take, drop}
 use Rattle.model.specs.Limits.{max_slot_ticks}
-use Rattle.model.specs.Sheet.{word}
 use Rattle.model.specs.Protocol.{begins_from}
-use Rattle.turns.proofs.TurnSteps.{begins_next, begins_done}
 use Rattle.turns.proofs.begin_messages.Given as goal
 
 abbrev pub invariant-loop-j : goal.invariant-loop-j

@@ -1,10 +1,8 @@
 -- `turns::clear` meets its contract: the words passed are filled, and the others are as they were. Assumes nothing.
 use Prim.Native.Nat.{◌≤◌, ◌-◌}
-use mathlib.Core.Path.{◌≡◌, refl}
+use mathlib.Core.Path.{◌≡◌}
 use mathlib.Core.List.{◌++◌}
-use native.Mathlib.Omega.{arith}
-use borrow.Author.Fill.{fill_none, fill_more}
-use lib.ListN.{length, drop, replicate, length-set}
+use lib.ListN.{length, drop, replicate}
 use Rattle.model.specs.Limits.{not_begun}
 use Rattle.turns.proofs.clear.Given as goal
 

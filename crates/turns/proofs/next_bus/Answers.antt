@@ -5,7 +5,6 @@ use native.Mathlib.Nat.{mul-le-mul}
 use native.Mathlib.Omega.{arith}
 use Rattle.model.proofs.Sheet.ValidSheet.{valid_fits}
 use Rattle.turns.proofs.TurnSteps.{next_record}
-use borrow.Author.Rules.{rules}
 use Rattle.turns.proofs.next_bus.Goals as goal
 use Rattle.turns.proofs.next_bus.Lts as lts
 use Rattle.turns.proofs.next_bus.Tie as tie

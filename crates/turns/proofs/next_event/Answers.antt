@@ -5,7 +5,6 @@ use mathlib.Core.List.{List}
 use native.Mathlib.Decide.{le_ind}
 use native.Mathlib.Nat.{le_refl}
 use native.Mathlib.Omega.{arith}
-use borrow.Author.Rules.{rules}
 use Rattle.model.specs.Protocol.{releases, release_tick}
 use Rattle.queue.specs.Queue.{RisingFrom}
 use Rattle.turns.proofs.next_event.Goals as goal

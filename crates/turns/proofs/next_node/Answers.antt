@@ -1,10 +1,8 @@
 -- `turns::next_node` meets its contract: the branch decides the definition's test. Assumes nothing.
 use mathlib.Core.Path.{refl, sym, ap, ◌∙◌}
-use native.Mathlib.Omega.{arith}
 use borrow.Author.Tests.{eq-eqb, ne_eqb}
 use Rattle.model.specs.Sheet.{nodes}
 use Rattle.model.specs.Protocol.{next_node}
-use Rattle.model.proofs.Sheet.ValidSheet.{valid_fits}
 use Rattle.turns.proofs.next_node.Goals as goal
 
 pub returns-then-k-header : goal.returns-then-k-header

@@ -1,16 +1,9 @@
 -- `turns::pass_idle` meets its contract: the record's fields are those of the definition, and the silent turns end soon after
 -- the tick that they go up to, so that all fit. Assumes nothing.
-use Prim.Native.Nat.{ℕ, pred, ◌+◌, ◌-◌, ◌*◌, ◌%◌, ◌≤◌}
-use mathlib.Core.Path.{◌≡◌, refl, ap}
-use native.Mathlib.Nat.{mod-le}
-use native.Mathlib.Numerals.{add-one, sub-one}
+use Prim.Native.Nat.{ℕ, ◌+◌, ◌*◌, ◌≤◌}
+use mathlib.Core.Path.{ap}
 use native.Mathlib.Omega.{arith}
-use mathlib.Core.List.{List}
-use Rattle.model.specs.declared.Bus.{Bus}
-use Rattle.model.specs.Sheet.{nodes, slot_ticks}
-use Rattle.model.specs.Idle.{idle_bus, silent_turns}
 use Rattle.model.proofs.Sheet.ValidSheet.{valid_fits}
-use borrow.Author.Rules.{rules}
 use Rattle.turns.proofs.pass_idle.Goals as goal
 use Rattle.turns.proofs.pass_idle.Lts as lts
 use Rattle.turns.proofs.pass_idle.Tie as tie

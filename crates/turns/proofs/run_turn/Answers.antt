@@ -4,7 +4,6 @@ use mathlib.Core.Path.{sym, ap, ◌∙◌}
 use lib.Seq.{length-take-le}
 use Rattle.model.proofs.Sheet.ValidSheet.{valid_fits}
 use Rattle.turns.proofs.TurnSteps.{few_sent, taken_below, served_by}
-use borrow.Author.Rules.{rules}
 use Rattle.turns.proofs.run_turn.Goals as goal
 
 pub look-taken-requires : goal.look-taken-requires

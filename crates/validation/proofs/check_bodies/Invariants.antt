@@ -1,17 +1,11 @@
 -- `validation::check_bodies` meets its contract: what is left of the row of checks equals the whole, and the streams passed are those of the
 -- nodes passed. Assumes nothing.
-use Prim.Native.Nat.{ℕ, ◌≤◌, ◌*◌, ◌-◌, ◌+◌}
-use mathlib.Core.Path.{◌≡◌, sym, ◌∙◌}
-use mathlib.Core.List.{List}
-use native.Mathlib.Numerals.{add-one}
-use native.Mathlib.Omega.{arith}
-use borrow.Author.Rules.{rules}
-use Rattle.theory.proofs.Sums.{sum_to_none, sum_to_more}
-use Rattle.model.specs.declared.Answer.{Answer}
+use Prim.Native.Nat.{◌≤◌, ◌*◌, ◌-◌}
+use mathlib.Core.Path.{◌≡◌}
 use Rattle.model.specs.Refusal.{first_of}
-use Rattle.model.proofs.Sheet.Refusals.{rest, rest_start, rest_on, rest_stop, rest_end}
-use Rattle.tables.specs.Tables.{node_entry, sum_up_to}
-use Rattle.tables.specs.Writing.{table_stream_refusal, table_body_refusal}
+use Rattle.model.proofs.Sheet.Refusals.{rest}
+use Rattle.tables.specs.Tables.{sum_up_to}
+use Rattle.tables.specs.Writing.{table_body_refusal}
 use Rattle.validation.proofs.check_bodies.Given as goal
 
 abbrev pub invariant-loop-i : goal.invariant-loop-i

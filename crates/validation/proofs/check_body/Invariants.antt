@@ -1,9 +1,8 @@
 -- `validation::check_body` meets its contract: what is left of the row of checks equals the whole. Assumes nothing.
 use Prim.Native.Nat.{◌≤◌, ◌-◌}
 use mathlib.Core.Path.{◌≡◌}
-use native.Mathlib.Omega.{arith}
 use Rattle.model.specs.Refusal.{first_of}
-use Rattle.model.proofs.Sheet.Refusals.{rest, rest_start, rest_on, rest_stop, rest_end}
+use Rattle.model.proofs.Sheet.Refusals.{rest}
 use Rattle.tables.specs.Writing.{table_stream_refusal}
 use Rattle.validation.proofs.check_body.Given as goal
 

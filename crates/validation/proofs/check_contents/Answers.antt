@@ -8,7 +8,6 @@ use Rattle.model.specs.Refusal.{refuse, refuse_if, outside}
 use Rattle.model.proofs.Sheet.Range.{within}
 use Rattle.model.proofs.Sheet.Refusals.{refused, passed, refuse_if_none}
 use Rattle.tables.specs.Writing.{contents_refusal}
-use borrow.Author.Rules.{rules}
 use Rattle.validation.proofs.check_contents.Goals as goal
 
 -- a number of nodes that is not refused

@@ -3,7 +3,6 @@ use Prim.Native.Nat.{pred, ◌+◌}
 use mathlib.Core.Path.{◌≡◌}
 use native.Mathlib.Omega.{arith}
 use Rattle.tables.specs.Writing.{table_stream_refusal}
-use borrow.Author.Rules.{rules}
 use Rattle.validation.proofs.check_stream.Goals as goal
 
 pub returns : goal.returns

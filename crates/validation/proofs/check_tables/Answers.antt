@@ -5,7 +5,6 @@ use Rattle.model.proofs.Sheet.Refusals.{refused, passed}
 use Rattle.tables.specs.Tables.{lent_tables}
 use Rattle.tables.specs.Writing.{tables_refusal}
 use Rattle.tables.proofs.Passing.{contents_fit}
-use borrow.Author.Rules.{rules}
 use Rattle.validation.proofs.check_tables.Goals as goal
 
 pub returns-then-contents-ne0 : goal.returns-then-contents-ne0

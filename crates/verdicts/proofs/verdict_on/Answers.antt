@@ -1,7 +1,4 @@
 -- `verdicts::verdict_on` meets its contract: the cycle and the budget are the sheet's. Assumes nothing.
-use mathlib.Core.Path.{ap₂, ◌∙◌}
-use borrow.Author.Rules.{rules}
-use Rattle.model.specs.Analysis.{verdict_with}
 use Rattle.model.proofs.Sheet.ValidSheet.{valid_fits}
 use Rattle.verdicts.proofs.InRange.{own_shares}
 use Rattle.verdicts.proofs.verdict_on.Goals as goal

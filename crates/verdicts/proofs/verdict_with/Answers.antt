@@ -1,9 +1,6 @@
 -- `verdicts::verdict_with` meets its contract: the verdict by the periods and jitters of those above is the definition's. Assumes
 -- nothing.
-use borrow.Author.Rules.{rules}
-use mathlib.Core.Path.{sym, ap, ◌∙◌}
-use native.Mathlib.Omega.{arith}
-use lib.Seq.{length-take-le}
+use mathlib.Core.Path.{ap, ◌∙◌}
 use Rattle.model.proofs.Sheet.ValidSheet.{valid_fits}
 use Rattle.verdicts.specs.Periods.{higher_periods, higher_jitters}
 use Rattle.verdicts.proofs.Periods.{verdict_lists}
@@ -16,8 +13,7 @@ verdict_by-requires c =
     let p = c.requires in
     let s = a.sheet.now in
     let fits = valid_fits s p.0 in
-    let stream = c.stream_of-stream in
-     (
+    let stream = c.stream_of-stream in (
       rw (c.higher_streams-n.ensures.periods, c.higher_streams-n.ensures.jitters) (above_ranges s a.k stream.result fits p.1.node_from p.1.node_to),
       rw c.timing_with-timing.ensures (timing_ranges s a.cycle a.budget fits p.2),
       rw stream.ensures (stream_ranges s a.k a.j fits p.1),
@@ -28,7 +24,6 @@ returns c =
     let a = c.args in
     let s = a.sheet.now in
     let stream = c.stream_of-stream.ensures in
-    
     verdict_lists s a.cycle a.budget a.k a.j
     (c.higher_streams-n.ensures.periods ∙ ap (higher_periods s a.k) stream)
     (c.higher_streams-n.ensures.jitters ∙ ap (higher_jitters s a.k) stream)

@@ -1,18 +1,13 @@
 -- `analysis::judge::judge_node` meets its contract: what is left of the row of checks equals the whole, and so do the waits listed and those
 -- that are left.
 -- Assumes nothing.
-use Prim.Native.Nat.{◌≤◌, ◌<◌, ◌-◌, ◌+◌}
-use mathlib.Core.Path.{◌≡◌, refl, sym, ap, ◌∙◌}
+use Prim.Native.Nat.{◌≤◌, ◌-◌}
+use mathlib.Core.Path.{◌≡◌}
 use mathlib.Core.List.{◌++◌}
-use native.Mathlib.Nat.{suc-ne-zero}
-use native.Mathlib.Omega.{arith}
-use borrow.Author.Rules.{rules}
-use lib.ListN.{length, take, length-set}
-use Rattle.model.specs.Refusal.{first_of}
-use Rattle.model.specs.Answers.{node_late_refusal, node_late_with, waits_from}
-use Rattle.model.proofs.Sheet.Refusals.{rest, rest_start, rest_on, rest_stop, rest_end}
-use Rattle.theory.proofs.Filling.{fill_one, fill_end}
-use Rattle.model.proofs.Answers.ListedWaits.{late_refused, listed_accepted, late_at, waits_left, waits_all, waits_next, waits_none}
+use lib.ListN.{length, take}
+use Rattle.model.specs.Answers.{node_late_refusal, waits_from}
+use Rattle.model.proofs.Sheet.Refusals.{rest}
+use Rattle.model.proofs.Answers.ListedWaits.{late_at, waits_left}
 use Rattle.analysis.proofs.judge.judge_node.Given as goal
 
 abbrev pub invariant-loop-i : goal.invariant-loop-i

@@ -3,19 +3,16 @@
 -- Assumes nothing.
 use Prim.Native.Nat.{◌≤◌, ◌-◌, ◌+◌}
 use mathlib.Core.Path.{◌≡◌, refl, sym, ◌∙◌}
-use mathlib.Core.List.{◌++◌}
 use native.Mathlib.Omega.{arith}
-use borrow.Author.Rules.{rules}
 use lib.ListN.{length, take}
-use Rattle.model.specs.Refusal.{first_of}
-use Rattle.model.specs.Sheet.{nodes, stream_count, streams_up_to}
+use Rattle.model.specs.Sheet.{nodes, stream_count}
 use Rattle.model.specs.Answers.{node_late_refusal}
-use Rattle.model.proofs.Sheet.Refusals.{rest, rest_start, rest_on, rest_stop, rest_end}
+use Rattle.model.proofs.Sheet.Refusals.{rest_start, rest_on, rest_stop, rest_end}
 use Rattle.theory.proofs.Filling.{fill_part, fill_end}
 use Rattle.theory.proofs.Overwriting.{lent_length}
 use Rattle.theory.proofs.Sums.{sum_to_none}
 use Rattle.model.proofs.Sheet.NodeSums.{streams_next, streams_room}
-use Rattle.model.proofs.Answers.ListedWaits.{node_waits, nodes_left, nodes_all, nodes_next, nodes_none}
+use Rattle.model.proofs.Answers.ListedWaits.{nodes_all, nodes_next, nodes_none}
 use borrow.Rule.Slice.PartMut.{same_len_mid}
 use Rattle.analysis.proofs.judge.judge_nodes.Goals as goal
 use Rattle.analysis.proofs.judge.judge_nodes.Lts as lts

@@ -1,21 +1,15 @@
 -- `analysis::judge::judge_nodes` meets its contract: what is left of the row of checks equals the whole, and so do the waits listed and those
 -- that are left. The waits of the next node go into the part of the buffer that is lent from `at` on.
 -- Assumes nothing.
-use Prim.Native.Nat.{◌≤◌, ◌-◌, ◌+◌}
-use mathlib.Core.Path.{◌≡◌, refl, sym, ◌∙◌}
+use Prim.Native.Nat.{◌≤◌, ◌-◌}
+use mathlib.Core.Path.{◌≡◌}
 use mathlib.Core.List.{◌++◌}
-use native.Mathlib.Omega.{arith}
-use borrow.Author.Rules.{rules}
 use lib.ListN.{length, take}
 use Rattle.model.specs.Refusal.{first_of}
-use Rattle.model.specs.Sheet.{nodes, stream_count, streams_up_to}
+use Rattle.model.specs.Sheet.{streams_up_to}
 use Rattle.model.specs.Answers.{node_late_refusal}
-use Rattle.model.proofs.Sheet.Refusals.{rest, rest_start, rest_on, rest_stop, rest_end}
-use Rattle.theory.proofs.Filling.{fill_part, fill_end}
-use Rattle.theory.proofs.Overwriting.{lent_length}
-use Rattle.theory.proofs.Sums.{sum_to_none}
-use Rattle.model.proofs.Sheet.NodeSums.{streams_next, streams_room}
-use Rattle.model.proofs.Answers.ListedWaits.{node_waits, nodes_left, nodes_all, nodes_next, nodes_none}
+use Rattle.model.proofs.Sheet.Refusals.{rest}
+use Rattle.model.proofs.Answers.ListedWaits.{node_waits, nodes_left}
 use Rattle.analysis.proofs.judge.judge_nodes.Given as goal
 
 abbrev pub invariant-loop-i : goal.invariant-loop-i

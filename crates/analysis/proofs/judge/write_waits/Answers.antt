@@ -1,7 +1,6 @@
 -- `analysis::judge::write_waits` meets its contract: a success leaves its values and the rest, and a refusal changes no word.
 -- Assumes nothing.
 use mathlib.Core.Path.{◌∙◌}
-use borrow.Author.Rules.{rules}
 use Rattle.theory.proofs.Overwriting.{put_fits}
 use Rattle.model.proofs.Answers.Buffer.{buffer_kept, buffer_written}
 use Rattle.analysis.proofs.judge.write_waits.Goals as goal

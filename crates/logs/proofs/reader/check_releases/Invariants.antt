@@ -1,15 +1,12 @@
 -- `log::reader::check_releases` meets its contract: what is left of the row of checks equals the whole, and `before` is the tick that
 -- the next release must not be below. Assumes nothing.
 use Prim.Native.Nat.{◌≤◌, ◌+◌, ◌-◌}
-use mathlib.Core.Path.{◌≡◌, refl}
-use native.Mathlib.Omega.{arith}
-use native.Mathlib.Numerals.{add-one}
-use borrow.Author.Rules.{rules}
+use mathlib.Core.Path.{◌≡◌}
 use Rattle.model.specs.Refusal.{first_of}
 use Rattle.model.specs.Sheet.{total_streams}
 use Rattle.model.specs.Protocol.{releases}
 use Rattle.model.specs.Answers.{tick_before, piece_release_refusal}
-use Rattle.model.proofs.Sheet.Refusals.{rest, rest_start, rest_on, rest_stop, rest_end}
+use Rattle.model.proofs.Sheet.Refusals.{rest}
 use Rattle.logs.proofs.reader.check_releases.Given as goal
 
 abbrev pub invariant-loop-i : goal.invariant-loop-i

@@ -1,6 +1,5 @@
 -- `log::reader::release_is_wrong` meets its contract: each exit rewrites the definition with the tests that led there.
 -- Assumes nothing.
-use borrow.Author.Rules.{rules}
 use borrow.Author.Tests.{lt-ltb, le-ltb}
 use mathlib.Core.Path.{refl}
 use Rattle.model.specs.Refusal.{outside}

@@ -1,6 +1,5 @@
 -- `report::begins::put_begin` meets its contract: the word for a release that has not begun is the one that is tested for.
 -- Assumes nothing.
-use borrow.Author.Rules.{rules}
 use borrow.Author.Tests.{eq-eqb, ne_eqb}
 use Rattle.model.specs.Limits.{not_begun}
 use Rattle.texts.specs.Text.{begin_text}

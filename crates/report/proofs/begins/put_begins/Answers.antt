@@ -1,6 +1,5 @@
 -- `report::begins::put_begins` meets its contract: the head, the lines, and the parts of the line under them.
 -- Assumes nothing.
-use borrow.Author.Rules.{rules}
 use Rattle.texts.specs.Text.{begin_table}
 use Rattle.digits.proofs.Putting.{then}
 use Rattle.report.proofs.begins.put_begins.Goals as goal

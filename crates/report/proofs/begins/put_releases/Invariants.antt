@@ -1,13 +1,8 @@
 -- `report::begins::put_releases` meets its contract: after i turns the lines of the first i releases are put.
 -- Assumes nothing.
 use Prim.Native.Nat.{◌≤◌, ◌-◌}
-use native.Mathlib.Omega.{arith}
-use mathlib.Core.Path.{◌≡◌}
-use borrow.Author.Rules.{rules}
 use Rattle.digits.specs.Put.{Put}
 use Rattle.texts.specs.Text.{lines_to, begin_line}
-use Rattle.digits.proofs.Putting.{nothing, then, same_size}
-use Rattle.texts.proofs.Lines.{next_line, begin_line_lem}
 use Rattle.report.proofs.begins.put_releases.Given as goal
 
 abbrev pub invariant-loop-i : goal.invariant-loop-i

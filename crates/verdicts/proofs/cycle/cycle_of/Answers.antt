@@ -3,7 +3,6 @@
 use Prim.Native.Nat.{◌+◌, ◌*◌}
 use mathlib.Core.Path.{◌≡◌, ap₂}
 use native.Mathlib.Omega.{arith}
-use borrow.Author.Rules.{rules}
 use Rattle.model.specs.Sheet.{nodes, message_ticks, slot_ticks, budgets_up_to, cycle}
 use Rattle.model.proofs.Sheet.ValidSheet.{valid_fits}
 use Rattle.model.proofs.Sheet.NodeSums.{cycle_most}

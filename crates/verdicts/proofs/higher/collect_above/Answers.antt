@@ -1,16 +1,13 @@
 -- `verdicts::higher::collect_above` meets its contract: what is collected, and the words of those above among the streams that are
 -- left, are the whole, of the periods and of the jitters. Assumes nothing.
-use Prim.Native.Nat.{◌≤◌, ◌-◌, ◌+◌}
+use Prim.Native.Nat.{◌+◌}
 use mathlib.Core.Path.{◌≡◌, sym, ap, ◌∙◌}
-use mathlib.Core.List.{◌++◌}
 use native.Mathlib.Omega.{arith}
-use borrow.Author.Rules.{rules}
-use lib.ListN.{length, take, length-set}
-use Rattle.model.specs.Limits.{max_streams}
+use lib.ListN.{length-set}
 use Rattle.model.specs.Analysis.{stream_of, streams_from, above}
 use Rattle.verdicts.specs.Periods.{periods_of, jitters_of}
 use Rattle.theory.proofs.Filling.{fill_one, fill_none, fill_end}
-use Rattle.verdicts.proofs.Above.{left, left_all, left_ranked, left_unranked, left_none}
+use Rattle.verdicts.proofs.Above.{left_ranked, left_unranked, left_none}
 use Rattle.verdicts.proofs.higher.collect_above.Goals as goal
 use Rattle.verdicts.proofs.higher.collect_above.Lts as lts
 use Rattle.verdicts.proofs.higher.collect_above.Tie as tie
@@ -62,7 +59,7 @@ returns c =
     let past = c.loop-i-test.false in record {
       count = omega (arith, body.few);
       periods = fill_end _ (left_none (λ y. y.period) a.sheet.now a.k a.x l.i a.count past) l.invariant.4
-            ∙ ap (λ n. periods_of (above a.x (streams_from a.sheet.now a.k 1 n))) body.counted;
+          ∙ ap (λ n. periods_of (above a.x (streams_from a.sheet.now a.k 1 n))) body.counted;
       jitters = fill_end _ (left_none (λ y. y.jitter) a.sheet.now a.k a.x l.i a.count past) l.invariant.5
-            ∙ ap (λ n. jitters_of (above a.x (streams_from a.sheet.now a.k 1 n))) body.counted;
+          ∙ ap (λ n. jitters_of (above a.x (streams_from a.sheet.now a.k 1 n))) body.counted;
     }

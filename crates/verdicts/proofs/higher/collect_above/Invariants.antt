@@ -1,16 +1,13 @@
 -- `verdicts::higher::collect_above` meets its contract: what is collected, and the words of those above among the streams that are
 -- left, are the whole, of the periods and of the jitters. Assumes nothing.
-use Prim.Native.Nat.{◌≤◌, ◌-◌, ◌+◌}
-use mathlib.Core.Path.{◌≡◌, sym, ap, ◌∙◌}
+use Prim.Native.Nat.{◌≤◌, ◌-◌}
+use mathlib.Core.Path.{◌≡◌}
 use mathlib.Core.List.{◌++◌}
-use native.Mathlib.Omega.{arith}
-use borrow.Author.Rules.{rules}
-use lib.ListN.{length, take, length-set}
+use lib.ListN.{length, take}
 use Rattle.model.specs.Limits.{max_streams}
-use Rattle.model.specs.Analysis.{stream_of, streams_from, above}
+use Rattle.model.specs.Analysis.{streams_from, above}
 use Rattle.verdicts.specs.Periods.{periods_of, jitters_of}
-use Rattle.theory.proofs.Filling.{fill_one, fill_none, fill_end}
-use Rattle.verdicts.proofs.Above.{left, left_all, left_ranked, left_unranked, left_none}
+use Rattle.verdicts.proofs.Above.{left}
 use Rattle.verdicts.proofs.higher.collect_above.Given as goal
 
 abbrev pub invariant-loop-i : goal.invariant-loop-i

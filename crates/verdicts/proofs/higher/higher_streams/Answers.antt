@@ -1,5 +1,4 @@
 -- `verdicts::higher::higher_streams` meets its contract: the body is where the sheet has it, and not too long. Assumes nothing.
-use borrow.Author.Rules.{rules}
 use Rattle.model.proofs.Sheet.ValidSheet.{valid_fits}
 use Rattle.verdicts.proofs.InRange.{body_there}
 use Rattle.verdicts.proofs.higher.higher_streams.Goals as goal

@@ -1,0 +1,13 @@
+-- `pieces::open::open_log` meets its contract: the piece is put after the log of the messages that wait. Assumes nothing.
+use native.Mathlib.Omega.{arith}
+use mathlib.Core.Path.{refl}
+use lib.ListN.{length}
+use Rattle.pieces.proofs.Opening.{opened_log}
+use Rattle.pieces.proofs.open.open_log.Goals as goal
+
+pub returns : goal.returns
+returns c =
+    let a = c.args in
+    let pre = c.requires in
+    opened_log a.c a.piece.now a.log.now c.wide-held.result (length c.put_waiting.new.log) c.wide-held.ensures.0 pre.0 refl (omega (arith, pre.1, c.put_waiting.auto.log))
+    c.put_waiting.ensures c.put.ensures
