@@ -51,7 +51,8 @@ pub fn edit_stream(
     ensures others { OthersKept sheet.old sheet.new own_node }
 {
     let answer = check_edit(sheet, own_node, node, stream, period, deadline, jitter);
-    if answer.number == 0 {
+    let accepted = answer.number == 0;
+    if accepted {
         let at = bodies::place_in_body(layout::place_of(sheet, node), stream);
         fill::put_stream(period, deadline, jitter, &mut sheet[at..]);
     }

@@ -20,17 +20,17 @@ pub record AsOnA (t : List ℕ) : Type 0 where
   pub late : one_stream_answer t 1 2 ≡ refuse 7 1 2
   pub no_third : one_stream_answer t 1 3 ≡ refuse 8 1 3
 
-abbrev A : List ℕ
+abbrev pub A : List ℕ
 A = sheet_a 40 38 38
 
 -- Its own answers, and that on node 2's stream.
-on_a : AsOnA A × (one_stream_answer A 2 1 ≡ success 16 1)
+pub on_a : AsOnA A × (one_stream_answer A 2 1 ≡ success 16 1)
 unfolding
     sum up_to refuse_if ◌or_else◌ first_of outside cycle ticks_outside counts_outside times_outside row_wrong row_refusal stream_refusal body_refusal header_refusal sheet_refusal
     streams_from outranks above most_releases interference wait_for search verdict verdict_with unknown_refusal verdict_answer one_stream_answer sheet_a
 on_a = (record { listed = refl; late = refl; no_third = refl }, refl)
 
-valid_a_lem : Valid A
+pub valid_a_lem : Valid A
 unfolding
     sum up_to refuse_if ◌or_else◌ first_of outside ticks_outside counts_outside times_outside row_wrong row_refusal stream_refusal body_refusal header_refusal sheet_refusal sheet_a
 valid_a_lem = refl
@@ -53,10 +53,10 @@ pub kept_a : (after : List ℕ) → OthersKept A after 2 → AsOnA after
 kept_a after kept = as_a after (kept 1 (λ e. suc-ne-zero 0 (omega (arith, e))))
 
 -- Two such sheets: with three other streams in node 2 in place of its one, and with none.
-abbrev crowded : List ℕ
+abbrev pub crowded : List ℕ
 crowded = 2 ∷ 5 ∷ 1 ∷ 9 ∷ 2 ∷ 1 ∷ 15 ∷ 3 ∷ 2 ∷ 40 ∷ 38 ∷ 0 ∷ 60 ∷ 38 ∷ 0 ∷ 7 ∷ 7 ∷ 6 ∷ 8 ∷ 1 ∷ 0 ∷ 9 ∷ 9 ∷ 0 ∷ []
 
-abbrev empty : List ℕ
+abbrev pub empty : List ℕ
 empty = 2 ∷ 5 ∷ 1 ∷ 9 ∷ 2 ∷ 1 ∷ 15 ∷ 0 ∷ 2 ∷ 40 ∷ 38 ∷ 0 ∷ 60 ∷ 38 ∷ 0 ∷ []
 
 two_budgets : (t : List ℕ) → budget A 1 ≡ budget t 1 → budget A 2 ≡ budget t 2 → (i : ℕ) → 1 ≤ i → i ≤ 2 → budget A i ≡ budget t i
@@ -77,22 +77,12 @@ unfolding
     streams_from sheet_a
 with_empty = (refl, record { same_nodes = refl; same_message = refl; same_slot = refl; same_budgets = two_budgets empty refl refl; same_streams = refl })
 
--- Both answer as A.
-pub crowded_as_a : AsOnA crowded
-crowded_as_a = alike_a crowded with_crowded.0 with_crowded.1
-
-pub empty_as_a : AsOnA empty
-empty_as_a = alike_a empty with_empty.0 with_empty.1
-
 -- A sheet whose node 1 has no streams, so that node 2's body stands elsewhere than on A: its stream waits as there.
-abbrev moved : List ℕ
+abbrev pub moved : List ℕ
 moved = 2 ∷ 5 ∷ 1 ∷ 9 ∷ 0 ∷ 1 ∷ 9 ∷ 1 ∷ 2 ∷ 30 ∷ 30 ∷ 0 ∷ []
 
-with_moved : Valid moved × Alike A moved 2
+pub with_moved : Valid moved × Alike A moved 2
 unfolding
     sum up_to refuse_if ◌or_else◌ first_of outside ticks_outside counts_outside times_outside row_wrong row_refusal stream_refusal body_refusal header_refusal sheet_refusal
     streams_from sheet_a
 with_moved = (refl, record { same_nodes = refl; same_message = refl; same_slot = refl; same_budgets = two_budgets moved refl refl; same_streams = refl })
-
-pub moved_as_a : one_stream_answer moved 2 1 ≡ success 16 1
-moved_as_a = rw (← independence A moved 2 valid_a_lem with_moved.0 with_moved.1 1) on_a.1

@@ -2,5 +2,6 @@
 pub mod InOrder
 pub mod Independence
 pub mod Applied
+pub mod AppliedAnswers
 pub mod EditedSheet
 pub mod Promise

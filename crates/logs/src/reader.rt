@@ -10,6 +10,7 @@ use model::Answer;
 use range::refuse_if;
 
 // A tick too large, a falling tick or a stream unknown in release i, counted from 0, where `before` is the tick before it.
+#[tactic(auto, using(crate::proofs::Tested::stream_below))]
 fn release_is_wrong(log: &[u32], i: usize, before: u32, streams: usize) -> bool
     requires { i < releases log.now }
     ensures { result ≡ (ltb max_time (release_tick log.now i) || ltb (release_tick log.now i) before || outside 1 streams (release_stream log.now i)) }

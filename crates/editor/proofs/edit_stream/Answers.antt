@@ -44,7 +44,7 @@ the-edit c =
 
 no-refusal : (c : lts.After-place_in_body tie.the-claims reads.Pre reads.Post tie.handed_clauses)
     → (edit_answer c.args.sheet.now (the-edit c)).number ≡ 0
-no-refusal c = rw c.check_edit-answer.ensures at c.if-answer-eq0.true
+no-refusal c = rw c.check_edit-answer.ensures at c.if-accepted.true
 
 -- The place found is the stream's,
 found : (c : lts.After-place_in_body tie.the-claims reads.Pre reads.Post tie.handed_clauses)
@@ -65,18 +65,18 @@ slice_bounds-put_stream-start c = omega (arith, inside c)
 pub slice_bounds-put_stream-count : goal.slice_bounds-put_stream-count
 slice_bounds-put_stream-count c = omega (arith, inside c)
 
-pub returns-then-answer-eq0 : goal.returns-then-answer-eq0
-returns-then-answer-eq0 c =
+pub returns-then-accepted : goal.returns-then-accepted
+returns-then-accepted c =
     let all = (let p = c.before.before.before.before.before in
     let a = p.args in
     promised a.sheet.now (the-edit p) p.check_edit-answer.ensures
     (words-set a.sheet.now (the-edit p) _ p.place_in_body-at.result (no-refusal p) (found p) c.put_stream.ensures)) in
     record { answer = all.0; sheet = all.1.0; valid = all.1.1.0; others = all.1.1.1 }
 
-pub returns-else-answer-eq0 : goal.returns-else-answer-eq0
-returns-else-answer-eq0 c =
+pub returns-else-accepted : goal.returns-else-accepted
+returns-else-accepted c =
     let all = (let a = c.args in
     let e = edit_of a.own_node a.node a.stream a.period a.deadline a.jitter in
     let same = c.check_edit-answer.ensures in
-    promised a.sheet.now e same (edit_refused a.sheet.now e (λ none. c.if-answer-eq0.false (rw same none)))) in
+    promised a.sheet.now e same (edit_refused a.sheet.now e (λ none. c.if-accepted.false (rw same none)))) in
     record { answer = all.0; sheet = all.1.0; valid = all.1.1.0; others = all.1.1.1 }

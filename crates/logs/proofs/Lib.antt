@@ -1,0 +1,2 @@
+-- Laws that the proofs of the log reader cite. Assumes nothing.
+pub mod Tested
