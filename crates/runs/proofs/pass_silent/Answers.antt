@@ -1,5 +1,7 @@
 -- `runs::pass_silent` meets its contract: while a message waits, or at the horizon, nothing is passed; else the turns up to the next
 -- release are silent. Assumes nothing.
+use Prim.Native.Nat.{◌≤◌}
+use native.Mathlib.Omega.{arith}
 use Rattle.queue.specs.Queue.{FirstUnbegun}
 use Rattle.runs.proofs.RunSteps.{moved_on, quiet_front, passed_idle, ahead_passed}
 use Rattle.runs.proofs.pass_silent.Goals as goal
@@ -21,6 +23,7 @@ returns c =
     let pre = c.requires in
     let event = c.next_event-until.ensures in
     let first = starting c.before.before.before.before.before.before.before in
-    let quiet = quiet_front first c.if-from-to.false event in
+    let passed_all : c.arrived_by-to.result ≤ c.next_unbegun-from.result = omega arith in
+    let quiet = quiet_front first passed_all event in
     let passed = passed_idle a.sheet.now a.log.now a.horizon a.run.bus pre.valid_node.0 pre.from_bound.3 event.later event.in_run quiet in
     ahead_passed a.sheet.now a.log.now a.horizon (rw c.pass_idle-next.ensures passed) first c.arrived_by-due.ensures.arrived
