@@ -43,6 +43,7 @@ pub fn nodes_outside(n: usize) -> bool
 }
 
 // Periods, deadlines or jitters that are not as many as the streams.
+#[tactic(auto, using(std::proofs::lemmas::Bool::Decides::nat_tests), unfolding(tables::specs::Writing::lengths_differ))]
 pub fn lengths_differ(periods: usize, deadlines: usize, jitters: usize, total: usize) -> bool
     ensures { result ≡ lengths_differ periods deadlines jitters total }
 {
