@@ -1,4 +1,4 @@
--- `log::check_input` meets its contract: each part's answer is the chain's where it refuses, and hands on to the next where
+-- `logs::check_input` meets its contract: each part's answer is the chain's where it refuses, and hands on to the next where
 -- it does not. Assumes nothing.
 use mathlib.Core.Path.{refl}
 use Rattle.model.specs.Answers.{room_refusal}

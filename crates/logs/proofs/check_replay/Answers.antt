@@ -1,4 +1,4 @@
--- `log::check_replay` meets its contract: the check of its own in the chain is the definition's. Assumes nothing.
+-- `logs::check_replay` meets its contract: the check of its own in the chain is the definition's. Assumes nothing.
 use Rattle.model.specs.Answers.{horizon_refusal}
 use Rattle.logs.specs.Replay.{replay_refusal}
 use Rattle.logs.proofs.check_replay.Goals as goal

@@ -1,4 +1,4 @@
--- `log::check_step` meets its contract: the check of its own in the chain is the definition's. Assumes nothing.
+-- `logs::check_step` meets its contract: the check of its own in the chain is the definition's. Assumes nothing.
 use Rattle.model.specs.Answers.{record_refusal, step_refusal}
 use Rattle.logs.proofs.check_step.Goals as goal
 

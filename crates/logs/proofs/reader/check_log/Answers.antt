@@ -1,4 +1,4 @@
--- `log::reader::check_log` meets its contract: a log is one piece without an end. Assumes nothing.
+-- `logs::reader::check_log` meets its contract: a log is one piece without an end. Assumes nothing.
 use mathlib.Core.Path.{◌∙◌}
 use Rattle.model.proofs.Answers.OnePiece.{one_piece}
 use Rattle.logs.proofs.reader.check_log.Goals as goal

@@ -1,4 +1,4 @@
--- `log::reader::check_piece` meets its contract: each part's answer is the chain's where it refuses, and hands on to the next where it
+-- `logs::reader::check_piece` meets its contract: each part's answer is the chain's where it refuses, and hands on to the next where it
 -- does not. Assumes nothing.
 use Prim.Native.Nat.{◌+◌}
 use mathlib.Core.Path.{◌≡◌}

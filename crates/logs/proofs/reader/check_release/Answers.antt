@@ -1,4 +1,4 @@
--- `log::reader::check_release` meets its contract: the test is the definition's, of the release after i others. Assumes nothing.
+-- `logs::reader::check_release` meets its contract: the test is the definition's, of the release after i others. Assumes nothing.
 use native.Mathlib.Numerals.{add-one}
 use Rattle.model.specs.Answers.{piece_release_refusal}
 use Rattle.logs.proofs.reader.check_release.Goals as goal

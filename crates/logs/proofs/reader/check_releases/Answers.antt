@@ -1,4 +1,4 @@
--- `log::reader::check_releases` meets its contract: what is left of the row of checks equals the whole, and `before` is the tick that
+-- `logs::reader::check_releases` meets its contract: what is left of the row of checks equals the whole, and `before` is the tick that
 -- the next release must not be below. Assumes nothing.
 use Prim.Native.Nat.{◌+◌}
 use mathlib.Core.Path.{refl}
