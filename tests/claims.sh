@@ -8,7 +8,7 @@ wrong=0
 named=$(mktemp) || exit 1
 trap 'rm -f "$named"' EXIT
 
-grep -oE '(^|[ ;|(])(theory|model|cases|layout|bodies|range|fill|tables|entries|validation|contents|sheet|rank|interference|wait|verdicts|asked|analysis|rounds|rows|budgets|logs|ordering|queue|turns|runs|bus|progress|trace|ranking|limits|records|recorded|recording|places|pieces|encoding|parts|writer|edits|editor|wistorvan|input|digits|texts|listing|report|admit|replay)/[a-z0-9_]+(, [a-z0-9_]+)*' "$page" |
+grep -oE '(^|[ ;|(])(theory|model|cases|layout|bodies|range|fill|tables|entries|validation|contents|sheet|refusals|rank|interference|wait|verdicts|asked|analysis|rounds|rows|budgets|logs|ordering|queue|turns|runs|bus|progress|trace|ranking|limits|records|recorded|recording|places|pieces|encoding|parts|writer|edits|editor|wistorvan|input|digits|texts|listing|report|admit|replay)/[a-z0-9_]+(, [a-z0-9_]+)*' "$page" |
     while IFS=/ read -r crate edits; do
         for edit in ${edits//,/ }; do
             echo "${crate//[ ;|(]/}/$edit"

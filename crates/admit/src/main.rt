@@ -10,6 +10,7 @@ ghost use Rattle.texts.specs.Longest.{longest_admit_text};
 ghost use Rattle.admit.specs.Output.{answer_text, output};
 
 use input::{SHEET_BYTES, SHEET_WORDS};
+use refusals::answer_of;
 use std::io::{Print, Read};
 
 // Bytes of the longest text: 17 for the head, 17 a stream for 256 streams, and 20 for the line under them.
@@ -30,7 +31,7 @@ fn put_answer(sheet: &[u32], text: &mut [u8]) -> usize
     ensures text { take result text.new ≡ answer_text sheet.now }
 {
     let mut waits = [0u32; 256];
-    let answer = analysis::admit(sheet, &mut waits);
+    let answer = answer_of(analysis::admit(sheet, &mut waits));
     report::admit_text(text, sheet, &waits, answer)
 }
 

@@ -13,11 +13,7 @@ use model::Stream;
 pub fn place_in_body(body: u32, j: u32) -> usize
     ensures { (result ≡ body + stream_words * pred j) × (result < 2 ^ 34) }
 {
-    if j == 0 {
-        wide(body)
-    } else {
-        wide(body) + 3 * wide(j - 1)
-    }
+    wide(body) + 3 * wide(j.saturating_sub(1))
 }
 
 // The stream with number j whose words stand at a place, all three of them: nothing is tested.
@@ -37,23 +33,17 @@ pub fn stream_there(sheet: &[u32], at: usize, j: u32) -> Stream
 pub fn stream_in(sheet: &[u32], at: usize, j: u32) -> Stream
     ensures { result ≡ stream_in sheet.now at j }
 {
-    if sheet.len() <= at {
-        return Stream {
-            number: j,
-            period: 0,
-            deadline: 0,
-            jitter: 0,
-        };
+    let words = sheet.get(at..).unwrap_or(&[]);
+    let (period, deadline, jitter) = match words {
+        [period, deadline, jitter, ..] => (*period, *deadline, *jitter),
+        _ => (word_at(words, 0), word_at(words, 1), 0),
+    };
+    Stream {
+        number: j,
+        period,
+        deadline,
+        jitter,
     }
-    if sheet.len() - at < 3 {
-        return Stream {
-            number: j,
-            period: sheet[at],
-            deadline: word_at(sheet, at + 1),
-            jitter: word_at(sheet, at + 2),
-        };
-    }
-    stream_there(sheet, at, j)
 }
 
 // Stream j of node k.

@@ -1,21 +1,15 @@
 -- The rounds as a loop runs them: the rounds from the present row on end where all of them do. Assumes nothing.
 use Prim.Native.Nat.{ℕ, zero, suc, ◌+◌, ◌*◌, ◌≤◌, ◌<◌}
-use native.Mathlib.Decide.{ℕ_discrete}
 use native.Mathlib.Omega.{arith}
-use mathlib.Core.Path.{◌≡◌, refl, sym, ap, ◌∙◌}
-use mathlib.Core.Bool.{Bool, true, false, ◌&&◌, not}
+use mathlib.Core.Path.{◌≡◌, refl, sym, ◌∙◌}
+use mathlib.Core.Bool.{true, false}
 use mathlib.Core.List.{List}
-use lib.Dec.{eqb}
-use borrow.Author.Tests.{eq-eqb, ne_eqb}
 use Rattle.theory.proofs.Sums.{sum_to_most}
-use Rattle.model.specs.declared.Answer.{Answer}
 use Rattle.model.specs.Limits.{max_nodes, max_budget}
-use Rattle.model.specs.Refusal.{first_of}
 use Rattle.model.specs.Sheet.{nodes}
-use Rattle.rounds.specs.Rounds.{budget_in, row_sum, late_with, first_row, raised_budget, raised, stuck_refusal, goes_on, rounds, max_rounds, last_row}
-use Rattle.rows.specs.Row.{Row, stuck_at}
+use Rattle.rounds.specs.Rounds.{budget_in, row_sum, first_row, raised_budget, raised, goes_on, rounds, max_rounds, last_row}
+use Rattle.rows.specs.Row.{Row}
 use Rattle.rounds.proofs.Rows.{row_sixteen, row_past}
-use Rattle.rows.proofs.Judging.{stuck_named, stuck_unnamed}
 use Rattle.rounds.proofs.Settling.{raised_range, raised_more, first_range, first_enough}
 
 module _ (s row : List ℕ) where
@@ -33,26 +27,6 @@ module _ (s row : List ℕ) where
   rounds_off : (more : ℕ) → goes_on s row ≡ false → rounds s (suc more) row ≡ row
   unfolding rounds
   rounds_off more off = rw (off, rounds) refl
-
--- What a round finds says whether another is to come.
-pub comes : (s row : List ℕ) (stuck : ℕ) (late : Bool)
-    → stuck_at stuck ≡ stuck_refusal s row
-    → (stuck ≡ 0 → late ≡ not (eqb (first_of (late_with s row) 1 (nodes s)).number 0))
-    → (late && eqb stuck 0) ≡ goes_on s row
-unfolding goes_on
-comes s row stuck late refusal judged = go (ℕ_discrete stuck 0)
-  where
-    and_false : (b : Bool) → (b && false) ≡ false
-    and_false true = refl
-    and_false false = refl
-
-    go : Dec (stuck ≡ 0) → (late && eqb stuck 0) ≡ (not (eqb (first_of (late_with s row) 1 (nodes s)).number 0) && eqb (stuck_refusal s row).number 0)
-    go (yes none) =
-        let passes : (stuck_refusal s row).number ≡ 0 = ap (λ (a : Answer). a.number) (sym refusal ∙ ap stuck_at none ∙ stuck_unnamed) in
-        rw (judged none, eq-eqb stuck 0 none, eq-eqb (stuck_refusal s row).number 0 passes) refl
-    go (no named) =
-        let eleven : (stuck_refusal s row).number ≡ 11 = ap (λ (a : Answer). a.number) (sym refusal ∙ stuck_named stuck named) in
-        rw (ne_eqb stuck 0 named, ne_eqb (stuck_refusal s row).number 0 (λ e. omega arith)) (and_false late ∙ sym (and_false (not (eqb (first_of (late_with s row) 1 (nodes s)).number 0))))
 
 -- The rounds have come to this row: from it on they end where all of them do, and enough are left.
 pub record Running (s row : List ℕ) : Type 0 where

@@ -7,7 +7,8 @@ use mathlib.Core.Path.{◌≡◌, refl, sym, ap, ◌∙◌}
 use mathlib.Core.List.{List, [], ◌∷◌, ◌++◌}
 use lib.ListN.{length, take, drop, set, length-set, length-append}
 use lib.Seq.{sets, length-sets, set_out, take_all, take-append_seam}
-use Rattle.digits.specs.Put.{Put, overwritten, fitting}
+use Rattle.digits.specs.Put.{Put, Adds, overwritten, fitting}
+use Rattle.digits.specs.declared.text.Text.{Text}
 
 -- Nothing is stored past the end.
 past_end : (out : List ℕ) (at : ℕ) (text : List ℕ) → length out ≤ at → sets out at text ≡ out
@@ -28,10 +29,6 @@ sets_append : (out : List ℕ) (at : ℕ) (a b : List ℕ) → sets out at (a ++
 sets_append out at [] b = rw add-zero refl
 sets_append out at (x ∷ a) b = rw (add-suc, ← suc-add) (sets_append (set out at x) (suc at) a b)
 
--- No text.
-pub nothing : (out : List ℕ) (at : ℕ) {next : ℕ} → next ≡ min at (length out) → Put out at [] out next
-nothing out at e = record { bytes = refl; place = rw add-zero e }
-
 -- A buffer keeps its size.
 pub same_size : {a b t : List ℕ} {i j : ℕ} → Put a i t b j → length b ≡ length a
 same_size {a} {b} {t} {i} p = ap length p.bytes ∙ length-sets a i t
@@ -49,6 +46,14 @@ then {a} {b} {c} {t} {u} {i} {j} {k} p q =
           ∙ sym (sets_append a i t u);
       place = omega (arith, p.place, q.place, same, length-append t u);
     }
+
+-- No text.
+pub adds_nothing : {a : Text} → Adds a [] a
+adds_nothing {a} = record { put = record { bytes = refl; place = rw add-zero (omega (arith, a.inside)) }; same = refl }
+
+-- A text that goes on, and goes on again.
+pub adds_then : {a b c : Text} {t u : List ℕ} → Adds a t b → Adds b u c → Adds a (t ++ u) c
+adds_then {a} {b} {c} {t} {u} p q = record { put = then p.put q.put; same = q.same ∙ p.same }
 
 -- Behind a buffer's first byte.
 behind : (x : ℕ) (out : List ℕ) (at : ℕ) (text : List ℕ) → sets (x ∷ out) (suc at) text ≡ x ∷ sets out at text
@@ -74,6 +79,10 @@ pub whole : (out text : List ℕ) {after : List ℕ} {next : ℕ}
 whole out text {next = next} room e f =
     let all : next ≡ length text = omega arith in
     rw (e, all, take_all (length out) text room) (take-append_seam text (drop (length text) out))
+
+-- A text that begins at the front of a buffer, and goes on.
+pub from_front : {out text : List ℕ} {a b : Text} → a.out.now ≡ out → a.at ≡ 0 → Adds a text b → Put out 0 text b.out.now b.at
+from_front {text = text} {b = b} e front p = rw (e, front) at p.put
 
 -- What is promised of a text at the front that is said to be at most so long where P holds.
 pub shown : {P : Type 0} {out text said after : List ℕ} {next most : ℕ}

@@ -1,65 +1,75 @@
-// Texts put into a lent buffer, one after the other. Each function answers the place after what it put; what does not fit is left out.
+// Texts put into a lent buffer, one after the other. What does not fit is left out.
 #![tactic(auto)]
 
-ghost use Rattle.std.specs.Prelude.{◌≡◌, [], ◌∷◌, ◌++◌, ◌<◌, min};
+ghost use Rattle.std.specs.Prelude.{◌≡◌, [], ◌∷◌, ◌++◌, ◌<◌};
 ghost use Rattle.digits.specs.Decimal.{digit, decimal};
-ghost use Rattle.digits.specs.Put.{Put};
+ghost use Rattle.digits.specs.Put.{Adds};
 
-// The smaller of two numbers.
-pub fn least(a: usize, b: usize) -> usize
-    ensures { result ≡ min a b }
-{
-    if a < b { a } else { b }
-}
+pub use text::Text;
 
-// One byte.
-fn put_byte(out: &mut [u8], at: usize, byte: u8) -> usize
-    ensures { Put out.old at (byte ∷ []) out.new result }
-{
-    let size = out.len();
-    if size <= at {
-        return size;
+mod text; // text.rt: the type
+
+impl<'a> Text<'a> {
+    // A text that begins at the buffer's front.
+    pub fn at_front(out: &'a mut [u8]) -> Text<'a>
+        ensures same_reference { result.out.ghost_name ≡ out.entry.ghost_name }
+        ensures buffer { result.out.now ≡ out.old }
+        ensures front { result.at ≡ 0 }
+    {
+        Text { out, at: 0 }
     }
-    out[at] = byte;
-    at + 1
-}
 
-// Some bytes.
-pub fn put(out: &mut [u8], at: usize, bytes: &[u8]) -> usize
-    ensures { Put out.old at bytes.now out.new result }
-{
-    let mut next = least(at, out.len());
-    let mut i: usize = 0;
-    while i < bytes.len() {
-        next = put_byte(out, next, bytes[i]);
-        i += 1;
+    // The bytes of the buffer that the text takes up.
+    pub fn length(&self) -> usize
+        ensures { result ≡ self.now.at }
+    {
+        self.at
     }
-    next
-}
 
-// One digit.
-fn put_digit(out: &mut [u8], at: usize, d: u32) -> usize
-    requires { d < 10 }
-    ensures { Put out.old at (digit d ∷ []) out.new result }
-{
-    put_byte(out, at, 48 + d as u8)
-}
-
-// A number in decimal: the digits before the last, and the last.
-pub fn put_number(out: &mut [u8], at: usize, n: u32) -> usize
-    ensures { Put out.old at (decimal n) out.new result }
-{
-    if n < 10 {
-        return put_digit(out, at, n);
+    // One byte.
+    fn put_byte(&mut self, byte: u8)
+        ensures { Adds self.old (byte ∷ []) self.new }
+    {
+        if self.at < self.out.len() {
+            self.out[self.at] = byte;
+            self.at += 1;
+        }
     }
-    let next = put_number(out, at, n / 10);
-    put_digit(out, next, n % 10)
-}
 
-// Some bytes and a number.
-pub fn put_labelled(out: &mut [u8], at: usize, label: &[u8], n: u32) -> usize
-    ensures { Put out.old at (label.now ++ decimal n) out.new result }
-{
-    let next = put(out, at, label);
-    put_number(out, next, n)
+    // Some bytes.
+    pub fn put(&mut self, bytes: &[u8])
+        ensures { Adds self.old bytes.now self.new }
+    {
+        for byte in bytes {
+            self.put_byte(*byte);
+        }
+    }
+
+    // One digit.
+    fn put_digit(&mut self, d: u32)
+        requires { d < 10 }
+        ensures { Adds self.old (digit d ∷ []) self.new }
+    {
+        self.put_byte(b'0' + d as u8);
+    }
+
+    // A number in decimal: the digits before the last, and the last.
+    pub fn put_number(&mut self, n: u32)
+        ensures { Adds self.old (decimal n) self.new }
+    {
+        if n < 10 {
+            self.put_digit(n);
+            return;
+        }
+        self.put_number(n / 10);
+        self.put_digit(n % 10);
+    }
+
+    // Some bytes and a number.
+    pub fn put_labelled(&mut self, label: &[u8], n: u32)
+        ensures { Adds self.old (label.now ++ decimal n) self.new }
+    {
+        self.put(label);
+        self.put_number(n);
+    }
 }

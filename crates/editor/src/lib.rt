@@ -2,12 +2,12 @@
 // crate `edits`.
 #![tactic(auto)]
 
-ghost use Rattle.std.specs.Prelude.{◌≡◌};
+ghost use Rattle.std.specs.Prelude.{◌≡◌, OnOk};
 ghost use Rattle.model.specs.Sheet.{Valid};
 ghost use Rattle.edits.specs.Edit.{edit_of, edit_answer, edit_sheet, OthersKept};
+ghost use Rattle.refusals.specs.Numbers.{checked};
 
-use model::Answer;
-use range::refuse_if;
+use refusals::{Refusal, refuse_if};
 
 // What is refused, in its order; success otherwise.
 fn check_edit(
@@ -18,19 +18,13 @@ fn check_edit(
     period: u32,
     deadline: u32,
     jitter: u32,
-) -> Answer
-    ensures { result ≡ edit_answer sheet.now (edit_of own_node node stream period deadline jitter) }
+) -> Result<(), Refusal>
+    ensures { checked result ≡ edit_answer sheet.now (edit_of own_node node stream period deadline jitter) }
 {
-    let fault = asked::check_asked(sheet, node, stream);
-    if fault.number != 0 {
-        return fault;
-    }
-    let other = refuse_if(node != own_node, 13, node, stream);
-    if other.number != 0 {
-        return other;
-    }
+    asked::check_asked(sheet, node, stream)?;
+    refuse_if(node != own_node, Refusal::Foreign { node, stream })?;
     let wrong = range::times_outside(period, deadline, jitter);
-    refuse_if(wrong, 5, node, stream)
+    refuse_if(wrong, Refusal::Times { node, stream })
 }
 
 // "The recorder is a guest on the owner's sheet": sets the period, the deadline and the jitter of a stream of our own node, and no other word.
@@ -44,17 +38,14 @@ pub fn edit_stream(
     period: u32,
     deadline: u32,
     jitter: u32,
-) -> Answer
-    ensures answer { result ≡ edit_answer sheet.old (edit_of own_node node stream period deadline jitter) }
+) -> Result<(), Refusal>
+    ensures answer { checked result ≡ edit_answer sheet.old (edit_of own_node node stream period deadline jitter) }
     ensures sheet { sheet.new ≡ edit_sheet sheet.old (edit_of own_node node stream period deadline jitter) }
-    ensures valid { result.number ≡ 0 → Valid sheet.new }
+    ensures valid { OnOk result (Valid sheet.new) }
     ensures others { OthersKept sheet.old sheet.new own_node }
 {
-    let answer = check_edit(sheet, own_node, node, stream, period, deadline, jitter);
-    let accepted = answer.number == 0;
-    if accepted {
-        let at = bodies::place_in_body(layout::place_of(sheet, node), stream);
-        fill::put_stream(period, deadline, jitter, &mut sheet[at..]);
-    }
-    answer
+    check_edit(sheet, own_node, node, stream, period, deadline, jitter)?;
+    let at = bodies::place_in_body(layout::place_of(sheet, node), stream);
+    fill::put_stream(period, deadline, jitter, &mut sheet[at..]);
+    Ok(())
 }

@@ -3,30 +3,23 @@ use Prim.Native.Nat.{ℕ, ◌+◌, ◌≤◌}
 use native.Mathlib.Omega.{arith}
 use mathlib.Core.Path.{◌≡◌, refl, sym, ◌∙◌, ap}
 use mathlib.Core.List.{List, [], ◌∷◌, ◌++◌, append-nil, append_assoc}
-use lib.ListN.{length, take, drop, length-append, length-drop, drop_of_length-le}
-use lib.Seq.{length-take-le, take_all, take_at, drop_at, drop-drop}
-use Rattle.theory.specs.Listing.{replaced_at, put_front}
-use Rattle.theory.proofs.Overwriting.{over_more, put_fits}
+use lib.ListN.{length, take, drop, length-append, drop_of_length-le}
+use lib.Seq.{take_all, take_at, drop_at, drop-drop}
+use Rattle.theory.specs.Listing.{replaced_at}
+use Rattle.theory.proofs.Overwriting.{over_more, over_part}
 use Rattle.model.specs.Limits.{max_waiting}
 use Rattle.pieces.specs.declared.Checkpoint.{Checkpoint}
 use Rattle.encoding.specs.Words.{checkpoint_header, ticks_place, streams_place, checkpoint_length, checkpoint_in, checkpoint_words}
 
--- The words of a table that are put over all places of another.
-pub table_put : (words old : List ℕ) (at many : ℕ) {table : List ℕ}
-    → many ≡ max_waiting
-    → length old ≡ max_waiting
-    → at + max_waiting ≤ length words
-    → table ≡ put_front (take many (drop at words)) old
-    → table ≡ take max_waiting (drop at words)
-table_put words old at many same full fits put =
-    let own : List ℕ = take many (drop at words) in
-    let long = length-take-le many (drop at words) (omega (arith, length-drop at words)) in
-    let none : drop (length own) old ≡ [] = drop_of_length-le old {i = length own} (omega arith) in
-    put
-    ∙ put_fits own old (omega arith)
-    ∙ ap (λ rest. own ++ rest) none
-    ∙ append-nil own
-    ∙ ap (λ n. take n (drop at words)) same
+-- A part of a table that comes back with values: they are written over the table there.
+pub part_over : (room values : List ℕ) (at many : ℕ) {part : List ℕ}
+    → length values ≡ many
+    → part ≡ values
+    → take at room ++ (part ++ drop many (drop at room)) ≡ replaced_at room at values
+part_over room values at many {part} long back =
+    ap (λ vs. take at room ++ (vs ++ drop many (drop at room))) back
+    ∙ ap (λ n. take at room ++ (values ++ drop n (drop at room))) (sym long)
+    ∙ over_part room at values
 
 module _ (old : List ℕ) where
   -- One part more is written after those before it,

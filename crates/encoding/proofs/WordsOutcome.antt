@@ -15,8 +15,7 @@ use Rattle.model.proofs.Sheet.Refusals.{or_else_on, or_else_both}
 use Rattle.model.proofs.Protocol.Run.{run_length}
 use Rattle.model.specs.Trace.{unbegun}
 use Rattle.pieces.specs.declared.Checkpoint.{Checkpoint}
-use Rattle.pieces.specs.declared.Resumed.{Resumed}
-use Rattle.pieces.specs.Pieces.{open_log, open_numbers, in_places, piece_end, piece_checkpoint, resume_refusal, resume_answer, resume_checkpoint, Continues}
+use Rattle.pieces.specs.Pieces.{open_log, open_numbers, in_places, piece_end, piece_checkpoint, resume_refusal, resume_answer, resume_checkpoint, Outcome, Continues}
 use Rattle.encoding.specs.Words.{checkpoint_in, checkpoint_words, resume_words, ContinuesIn}
 use Rattle.pieces.proofs.Taken.{piece_taken}
 use Rattle.pieces.proofs.Opened.{open_count}
@@ -75,7 +74,7 @@ module _ (s words piece : List ℕ) (horizon room : ℕ) where
       rw (ne_eqb (resume_refusal s c piece horizon room).number 0 (refuses s c piece horizon room is not)) refl
 
   -- What was run stands in the table, and goes on.
-  pub table_run : (buffer : List ℕ) {r : Resumed} {after : List ℕ}
+  pub table_run : (buffer : List ℕ) {r : Outcome} {after : List ℕ}
       → r.answer ≡ resume_answer s (checkpoint_in words) piece horizon room
       → r.answer.number ≡ 0
       → r.checkpoint ≡ resume_checkpoint s (checkpoint_in words) piece horizon room

@@ -3,9 +3,11 @@
 use Rattle.std.specs.Prelude.{ℕ, ◌+◌, cond, List, ◌∷◌, ◌++◌, eqb, take, drop}
 use Rattle.model.specs.declared.Answer.{Answer}
 use Rattle.model.specs.Limits.{max_waiting}
+use Rattle.model.specs.Refusal.{success}
 use Rattle.model.specs.Sheet.{word}
 use Rattle.pieces.specs.declared.Checkpoint.{Checkpoint}
 use Rattle.pieces.specs.Pieces.{piece_checkpoint, resume_refusal, Continues}
+use Rattle.encoding.specs.declared.PieceRun.{PieceRun}
 
 -- Words before the first table.
 abbrev pub checkpoint_header : ℕ
@@ -53,6 +55,10 @@ resume_words s words piece horizon room =
     cond (eqb (resume_refusal s (checkpoint_in words) piece horizon room).number 0)
     (checkpoint_words (piece_checkpoint s (checkpoint_in words) piece horizon))
     words
+
+-- The numbers of a piece that was run: the messages begun in it, and the turns so far.
+abbrev pub run_numbers : PieceRun → Answer
+run_numbers run = success run.begun run.turns
 
 -- The record in the table goes on as one by value does: it stands for the log with the piece after it.
 abbrev pub ContinuesIn : List ℕ → List ℕ → List ℕ → Answer → List ℕ → List ℕ → Type 0

@@ -6,16 +6,12 @@ ghost use Rattle.std.specs.Prelude.{◌≡◌, [], ◌∷◌};
 ghost use Rattle.theory.specs.Listing.{put_front};
 
 // Some words.
+#[tactic(auto, using(theory::proofs::Overwriting::put_fits, theory::proofs::Overwriting::put_not))]
 pub fn put(values: &[u32], part: &mut [u32])
     ensures { part.new ≡ put_front values.now part.old }
 {
-    if part.len() < values.len() {
-        return;
-    }
-    let mut i: usize = 0;
-    while i < values.len() {
-        part[i] = values[i];
-        i += 1;
+    if values.len() <= part.len() {
+        part[..values.len()].copy_from_slice(values);
     }
 }
 

@@ -1,11 +1,11 @@
 // What the programs read: bytes, and bytes to words. The library itself takes words.
 #![tactic(auto)]
 
-ghost use Rattle.std.specs.Prelude.{◌≡◌, ◌+◌, ◌*◌, ◌%◌, ◌≤◌, ◌<◌, ◌++◌, length, take, drop};
+ghost use Rattle.std.specs.Prelude.{◌≡◌, ◌%◌, length, take};
 ghost use Rattle.model.specs.Limits.{longest_sheet, longest_replay_input};
 ghost use Rattle.model.specs.Sheet.{Valid};
 ghost use Rattle.std.specs.Counts.{IsPrefixLen};
-ghost use Rattle.input.specs.Input.{word_bytes, word_at, words_from, all_words, Loaded};
+ghost use Rattle.input.specs.Input.{word_bytes, all_words, Loaded};
 
 use std::io::Read;
 
@@ -26,45 +26,14 @@ pub fn read_full<R: Read>(from: &mut R, bytes: &mut [u8]) -> usize
     ensures { IsPrefixLen result bytes.new }
 {
     let mut done = 0;
+    // Kept: a `while`, since a turn goes on by as many bytes as a read gave.
     while done < bytes.len() {
-        let got = match from.read(&mut bytes[done..]) {
-            Ok(n) => n,
-            Err(_) => 0,
-        };
-        if got == 0 {
-            break;
+        match from.read(&mut bytes[done..]) {
+            Ok(0) | Err(_) => break,
+            Ok(count) => done += count,
         }
-        done += got;
     }
     done
-}
-
-// A byte as a word.
-fn widen(b: u8) -> u32
-    ensures { (result ≡ b) × (result < 256) }
-{
-    b as u32
-}
-
-// Word i of the bytes.
-fn word_of(bytes: &[u8], i: usize) -> u32
-    requires { 4 * i + 4 ≤ length bytes.now }
-    ensures { result ≡ word_at bytes.now i }
-{
-    let low = widen(bytes[4 * i]) + 256 * widen(bytes[4 * i + 1]);
-    low + 65536 * widen(bytes[4 * i + 2]) + 16777216 * widen(bytes[4 * i + 3])
-}
-
-// Writes the first n words of the bytes.
-fn store(bytes: &[u8], words: &mut [u32], n: usize)
-    requires { (4 * n ≤ length bytes.now) × (n ≤ length words.old) }
-    ensures { words.new ≡ words_from bytes.now 0 n ++ drop n words.old }
-{
-    let mut i = 0;
-    while i < n {
-        words[i] = word_of(bytes, i);
-        i += 1;
-    }
 }
 
 // Puts the words of the bytes at the start of `words` and answers how many there are: none where the bytes are no whole number
@@ -72,18 +41,17 @@ fn store(bytes: &[u8], words: &mut [u32], n: usize)
 fn load(bytes: &[u8], words: &mut [u32]) -> usize
     ensures { Loaded (length words.old) bytes.now words.old words.new result }
 {
-    let size = bytes.len();
-    if size % 4 != 0 {
+    let (chunks, rest) = bytes.as_chunks::<4>();
+    if !rest.is_empty() || words.len() < chunks.len() {
         return 0;
     }
-    let n = size / 4;
-    if words.len() < n {
-        return 0;
+    for (i, chunk) in chunks.iter().enumerate() {
+        words[i] = u32::from_le_bytes(*chunk);
     }
-    store(bytes, words, n);
-    n
+    chunks.len()
 }
 
+// Kept: `load_sheet` and `load_second`, and not one function for a table of any size: each holds its constant to the limit that it names.
 // The words of a sheet. The limit turns no valid sheet away.
 pub fn load_sheet(bytes: &[u8], words: &mut [u32; SHEET_WORDS]) -> usize
     ensures loaded { Loaded longest_sheet bytes.now words.old words.new result }

@@ -81,12 +81,11 @@ fn split_at(periods: &[u32], jitters: &[u32], w: u32, cycle: u32, reach: u32) ->
     let mut held: u64 = 0;
     let mut ahead: u64 = 0;
     let mut rate: u64 = 0;
-    let mut i: usize = 0;
-    while i < periods.len() {
-        held += held_by(periods[i], jitters[i], w, reach);
-        ahead += ahead_by(periods[i], jitters[i], reach);
-        rate += rated_by(periods[i], cycle, reach);
-        i += 1;
+    // The jitters by index, as a zip asks for both lengths at each stream, and this loop is most of a jump's time.
+    for (i, &period) in periods.iter().enumerate() {
+        held += held_by(period, jitters[i], w, reach);
+        ahead += ahead_by(period, jitters[i], reach);
+        rate += rated_by(period, cycle, reach);
     }
     Split { held, ahead, rate }
 }
@@ -96,8 +95,7 @@ fn left_of(budget: u32, rate: u64) -> u64
     requires { budget ≤ max_budget }
     ensures { result ≡ budget * scale - rate }
 {
-    let full = long(budget) * SCALE;
-    if rate < full { full - rate } else { 0 }
+    (long(budget) * SCALE).saturating_sub(rate)
 }
 
 // A number that each from `cycles` on that suffices comes up to, by the split at that reach. Where the rates alone fill the turns, none
@@ -138,8 +136,7 @@ fn farther(
     if cycles < NEAR {
         return plain;
     }
-    let far = split_jump(periods, jitters, timing, cycles, reach);
-    if plain < far { far } else { plain }
+    plain.max(split_jump(periods, jitters, timing, cycles, reach))
 }
 
 // The next number to try, where h is the interference in `cycles` and fills all their turns: none between them suffices. It is past
@@ -158,9 +155,5 @@ pub fn next_try(
 {
     let plain = h / long(timing.budget) + 1;
     let next = farther(periods, jitters, timing, cycles, reach, plain);
-    if next <= long(last) {
-        next as u32
-    } else {
-        last + 1
-    }
+    next.min(long(last) + 1) as u32
 }

@@ -32,10 +32,8 @@ pub fn interference_of(periods: &[u32], jitters: &[u32], w: u32) -> u64
     ensures { result ≡ interference_by periods.now jitters.now w }
 {
     let mut sum: u64 = 0;
-    let mut i: usize = 0;
-    while i < periods.len() {
-        sum += long(most_releases(periods[i], jitters[i], w));
-        i += 1;
+    for (&period, &jitter) in periods.iter().zip(jitters) {
+        sum += long(most_releases(period, jitter, w));
     }
     sum
 }

@@ -18,14 +18,14 @@ pub fn wide(x: u32) -> usize
 pub fn word_at(table: &[u32], i: usize) -> u32
     ensures { result ≡ word table.now i }
 {
-    if i < table.len() { table[i] } else { 0 }
+    table.get(i).copied().unwrap_or(0)
 }
 
 // Where the contents row of node k stands.
 pub fn row_at(k: u32) -> usize
     ensures { (result ≡ row_at k) × (result < 2 ^ 34) }
 {
-    if k == 0 { 3 } else { 3 + 3 * wide(k - 1) }
+    3 + 3 * wide(k.saturating_sub(1))
 }
 
 // The place of node k's body, as its row has it.
@@ -62,17 +62,14 @@ pub fn row_of(sheet: &[u32], k: u32) -> Row
     ensures { result ≡ row_as sheet.now k }
 {
     let at = row_at(k);
-    if sheet.len() <= at + 2 {
-        return Row {
-            place: word_at(sheet, at),
-            streams: word_at(sheet, at + 1),
-            budget: 0,
-        };
-    }
+    let (place, streams, budget) = match sheet.get(at..at + 3) {
+        Some([place, streams, budget]) => (*place, *streams, *budget),
+        _ => (word_at(sheet, at), word_at(sheet, at + 1), 0),
+    };
     Row {
-        place: sheet[at],
-        streams: sheet[at + 1],
-        budget: sheet[at + 2],
+        place,
+        streams,
+        budget,
     }
 }
 
@@ -91,13 +88,12 @@ pub fn streams_in(words: usize) -> usize
 }
 
 // The streams of nodes 1 to k together.
+#[tactic(auto, using(theory::proofs::Sums::sum_to_none, theory::proofs::Sums::sum_to_split))]
 pub fn streams_up_to(sheet: &[u32], k: u32) -> usize
     ensures { result ≡ streams_up_to sheet.now k }
 {
-    let mut sum: usize = 0;
-    let mut i: u32 = 0;
-    while i < k {
-        i += 1;
+    let mut sum = 0;
+    for i in 1..=k {
         sum += wide(stream_count(sheet, i));
     }
     sum

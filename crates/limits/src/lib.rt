@@ -23,7 +23,7 @@ fn limit_of(verdict: Verdict) -> u32
     ensures { result ≡ limit_word verdict }
 {
     match verdict {
-        Verdict::Late => 4294967295,
+        Verdict::Late => u32::MAX,
         Verdict::Listed { wait, cycles: _ } => wait,
     }
 }
@@ -85,9 +85,7 @@ fn list_ranked(
     ensures { limits.new ≡ values_from (λ j. limit_word (verdict_of sheet.now k j)) 1 (stream_count sheet.now k) ++ drop (stream_count sheet.now k) limits.old }
 {
     let mut sums = Sums { one: 0, two: 0 };
-    let mut i: usize = 0;
-    while i < order.len() {
-        let j = order[i];
+    for (i, &j) in order.iter().enumerate() {
         let limit = limit_above(
             sheet,
             k,
@@ -101,7 +99,6 @@ fn list_ranked(
         );
         limits[wide(j) - 1] = limit;
         sums = with_stream(sums, periods[i], jitters[i], timing.cycle);
-        i += 1;
     }
 }
 
@@ -145,11 +142,9 @@ fn list_nodes(sheet: &[u32], n: u32, cycle: u32, limits: &mut [u32])
     ensures { limits.new ≡ in_sheet_order sheet.now (λ k j. limit_word (verdict_of sheet.now k j)) ++ drop (total_streams sheet.now) limits.old }
 {
     let mut at: usize = 0;
-    let mut i: u32 = 0;
-    while i < n {
-        list_node(sheet, i + 1, cycle, &mut limits[at..]);
-        at += wide(stream_count(sheet, i + 1));
-        i += 1;
+    for k in 1..=n {
+        list_node(sheet, k, cycle, &mut limits[at..]);
+        at += wide(stream_count(sheet, k));
     }
 }
 

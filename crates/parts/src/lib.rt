@@ -10,25 +10,27 @@ ghost use Rattle.tables.specs.Writing.{row_of, body_of};
 
 use entries::node_entry;
 use layout::{wide, word_at};
+use tables::Tables;
 
-// The contents rows of n nodes, after the header.
-pub fn write_rows(counts: &[u32], budgets: &[u32], n: u32, room: &mut [u32])
-    requires { (n ≡ length counts.now) × (n ≤ max_nodes) × (sum_of counts.now ≤ max_nodes * max_streams) × (first_body_at n ≤ length room.old) }
-    ensures { room.new ≡ replaced_at room.old header_words (joined_from (row_of counts.now budgets.now) 1 n) }
+// The contents rows of all nodes, after the header.
+#[tactic(auto, using(crate::proofs::Counting::counts_room, theory::proofs::Sums::sum_to_none), unfolding(theory::specs::Listing::joined_from))]
+pub fn write_rows(tables: &Tables<'_>, room: &mut [u32])
+    requires { (length tables.now.counts.now ≤ max_nodes) × (sum_of tables.now.counts.now ≤ max_nodes * max_streams) × (first_body_at (length tables.now.counts.now) ≤ length room.old) }
+    ensures { room.new ≡ replaced_at room.old header_words (joined_from (row_of tables.now.counts.now tables.now.budgets.now) 1 (length tables.now.counts.now)) }
 {
+    let n = tables.counts.len() as u32;
     let mut place = layout::first_body_at(n);
-    let mut i: u32 = 0;
-    while i < n {
-        let at = layout::row_at(i + 1);
-        let count = node_entry(counts, i + 1);
-        let budget = node_entry(budgets, i + 1);
+    for k in 1..=n {
+        let at = layout::row_at(k);
+        let count = node_entry(tables.counts, k);
+        let budget = node_entry(tables.budgets, k);
         fill::put_row(place as u32, count, budget, &mut room[at..]);
         place += layout::body_words(count);
-        i += 1;
     }
 }
 
 // One body, in the part of the buffer that is lent from its place on: the words of `count` streams, which `before` others come before.
+#[tactic(auto, unfolding(theory::specs::Listing::joined_from))]
 fn write_body(
     periods: &[u32],
     deadlines: &[u32],
@@ -40,8 +42,7 @@ fn write_body(
     requires { (before + count < 2 ^ 64) × (stream_words * count ≤ length body.old) }
     ensures { body.new ≡ body_of periods.now deadlines.now jitters.now before count ++ drop (stream_words * count) body.old }
 {
-    let mut i: u32 = 0;
-    while i < count {
+    for i in 0..count {
         let from = before + wide(i);
         let at = layout::body_words(i);
         fill::put_stream(
@@ -50,30 +51,29 @@ fn write_body(
             word_at(jitters, from),
             &mut body[at..],
         );
-        i += 1;
     }
 }
 
-// The bodies of n nodes, each written from its place on.
-pub fn write_bodies(
-    counts: &[u32],
-    periods: &[u32],
-    deadlines: &[u32],
-    jitters: &[u32],
-    n: u32,
-    room: &mut [u32],
-)
-    requires { (n ≡ length counts.now) × (n ≤ max_nodes) × (sum_of counts.now ≤ max_nodes * max_streams) × (body_at n (sum_of counts.now) ≤ length room.old) }
-    ensures { room.new ≡ replaced_at room.old (first_body_at n) (joined_from (λ k. body_of periods.now deadlines.now jitters.now (counts_before counts.now k) (node_entry counts.now k)) 1 n) }
+// The bodies of all nodes, each written from its place on.
+#[tactic(auto, using(crate::proofs::Counting::counts_room))]
+pub fn write_bodies(tables: &Tables<'_>, room: &mut [u32])
+    requires { (length tables.now.counts.now ≤ max_nodes) × (sum_of tables.now.counts.now ≤ max_nodes * max_streams) × (body_at (length tables.now.counts.now) (sum_of tables.now.counts.now) ≤ length room.old) }
+    ensures { room.new ≡ replaced_at room.old (first_body_at (length tables.now.counts.now)) (joined_from (λ k. body_of tables.now.periods.now tables.now.deadlines.now tables.now.jitters.now (counts_before tables.now.counts.now k) (node_entry tables.now.counts.now k)) 1 (length tables.now.counts.now)) }
 {
+    let n = tables.counts.len() as u32;
     let mut before: usize = 0;
     let mut at = layout::first_body_at(n);
-    let mut i: u32 = 0;
-    while i < n {
-        let count = node_entry(counts, i + 1);
-        write_body(periods, deadlines, jitters, before, count, &mut room[at..]);
+    for k in 1..=n {
+        let count = node_entry(tables.counts, k);
+        write_body(
+            tables.periods,
+            tables.deadlines,
+            tables.jitters,
+            before,
+            count,
+            &mut room[at..],
+        );
         before += wide(count);
         at += layout::body_words(count);
-        i += 1;
     }
 }

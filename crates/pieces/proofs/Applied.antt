@@ -20,8 +20,7 @@ use Rattle.model.specs.Answers.{room_refusal, tick_before, piece_release_refusal
 use Rattle.model.specs.Demand.{Accepts}
 use Rattle.model.specs.Bench.{sheet_a, log_p9}
 use Rattle.pieces.specs.declared.Checkpoint.{Checkpoint}
-use Rattle.pieces.specs.declared.Resumed.{Resumed}
-use Rattle.pieces.specs.Pieces.{fresh_checkpoint, piece_end, piece_words, piece_checkpoint, checkpoint_refusal, piece_horizon_refusal, places_refusal, resume_refusal, resume_answer, resume_checkpoint, resume_buffer, Piece, NoneRefused, last_checkpoint, words_joined, log_joined, Represents, Continues, AsWhole}
+use Rattle.pieces.specs.Pieces.{fresh_checkpoint, piece_end, piece_words, piece_checkpoint, checkpoint_refusal, piece_horizon_refusal, places_refusal, resume_refusal, resume_answer, resume_checkpoint, resume_buffer, Piece, NoneRefused, last_checkpoint, words_joined, log_joined, Represents, Outcome, Continues, AsWhole}
 use Rattle.pieces.proofs.Theorem.{fresh_represents, pieces_represent, as_whole}
 
 -- "Sheet A".
@@ -150,7 +149,7 @@ day_waits =
     (rw days.to12.joined at (pieces_represent A [] fresh_checkpoint [] (day 12) (fresh_represents A valid_a_lem) days.to12.taken)) days.to12.last
 
 -- And so is what any two pieces make that keep what `resume` promises, with the words that they answer.
-pub two_pieces : (one two : Resumed) (room_one room_two : List ℕ)
+pub two_pieces : (one two : Outcome) (room_one room_two : List ℕ)
     → Continues A fresh_checkpoint (0 ∷ 1 ∷ 0 ∷ 2 ∷ []) one room_one
     → Continues A one.checkpoint (1 ∷ 3 ∷ []) two room_two
     → one.answer.number ≡ 0

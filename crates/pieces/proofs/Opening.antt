@@ -1,16 +1,16 @@
 -- What a piece is run over, written word by word: the messages that wait, as a log, and the release numbers. Assumes nothing.
-use Prim.Native.Nat.{ℕ, suc, ◌+◌, ◌-◌, ◌*◌, ◌≤◌}
+use Prim.Native.Nat.{ℕ, suc, ◌+◌, ◌*◌, ◌≤◌}
 use native.Mathlib.Omega.{arith}
-use mathlib.Core.Path.{◌≡◌, sym, ◌∙◌, ap, ap₂}
+use mathlib.Core.Path.{◌≡◌, ◌∙◌, ap, ap₂}
 use mathlib.Core.List.{List, ◌++◌}
 use lib.ListN.{length, take, drop}
 use lib.Seq.{take_at}
 use mir.Val.{Val}
 use denote.Laws.{Is}
 use denote.Struct.Declared.{row}
-use Rattle.theory.specs.Listing.{values_from, joined_from, replaced_at, put_front}
+use Rattle.theory.specs.Listing.{values_from, joined_from, replaced_at}
 use Rattle.theory.proofs.Listing.{values_length}
-use Rattle.theory.proofs.Overwriting.{over_upto, over_lent, lent_length, put_fits}
+use Rattle.theory.proofs.Overwriting.{over_upto, over_part}
 use Rattle.model.specs.Limits.{release_words, max_waiting}
 use Rattle.model.specs.Protocol.{releases}
 use Rattle.pieces.specs.declared.Checkpoint.{Checkpoint}
@@ -37,24 +37,19 @@ opened_numbers xs at waiting before count {ys} same fits written =
     ∙ ap (λ k. take k xs ++ values) same
 
 -- The log of those that wait stands before the piece that is put after it.
-pub opened_log : (c : Checkpoint) (piece old : List ℕ) (held room : ℕ) {log part : List ℕ}
+pub opened_log : (c : Checkpoint) (piece old log : List ℕ) (held many : ℕ)
     → held ≡ c.waiting
     → length piece ≡ release_words * releases piece
-    → length log ≡ room
-    → release_words * (c.waiting + releases piece) ≤ room
+    → many ≡ length piece
+    → release_words * (c.waiting + releases piece) ≤ length log
     → log ≡ joined_from (pair c.ticks c.streams) 0 held ++ drop (release_words * held) old
-    → part ≡ put_front piece (take (room - release_words * held) (drop (release_words * held) log))
-    → take (release_words * (c.waiting + releases piece)) (take (release_words * held) log ++ (part ++ drop (room - release_words * held) (drop (release_words * held) log))) ≡ open_log c piece
-opened_log c piece old held room {log} {part} same even full fits written put =
+    → take (release_words * (c.waiting + releases piece)) (take (release_words * held) log ++ (piece ++ drop many (drop (release_words * held) log))) ≡ open_log c piece
+opened_log c piece old log held many same even whole fits written =
     let at : ℕ = release_words * held in
-    let lent : List ℕ = take (length log - at) (drop at log) in
-    let there : room ≡ length log = sym full in
-    let given : part ≡ put_front piece lent = put ∙ ap (λ n. put_front piece (take (n - at) (drop at log))) there in
-    let back = given ∙ put_fits piece lent (omega (arith, lent_length log at)) in
     let all : release_words * (c.waiting + releases piece) ≡ at + length piece = omega arith in
     let front = joined_from (pair c.ticks c.streams) 0 held in
-    ap₂ (λ n (m : ℕ). take n (take at log ++ (part ++ drop (m - at) (drop at log)))) all there
-    ∙ ap (take (at + length piece)) (over_lent log part at piece back)
+    ap₂ (λ n (m : ℕ). take n (take at log ++ (piece ++ drop m (drop at log)))) all whole
+    ∙ ap (take (at + length piece)) (over_part log at piece)
     ∙ over_upto log at piece (omega arith)
     ∙ ap (λ ws. take at ws ++ piece) written
     ∙ ap (λ ws. ws ++ piece) (take_at front (drop at old) at (pairs_length c.ticks c.streams held))

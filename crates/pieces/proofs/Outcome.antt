@@ -10,13 +10,12 @@ use Rattle.model.proofs.Sheet.Refusals.{or_else_on, or_else_stop}
 use Rattle.model.proofs.Answers.Buffer.{buffer_written, buffer_kept}
 use borrow.Author.Tests.{eq-eqb, ne_eqb}
 use Rattle.pieces.specs.declared.Checkpoint.{Checkpoint}
-use Rattle.pieces.specs.declared.Resumed.{Resumed}
-use Rattle.pieces.specs.Pieces.{piece_end, piece_words, piece_checkpoint, resume_refusal, resume_answer, resume_checkpoint, resume_buffer, Continues}
+use Rattle.pieces.specs.Pieces.{piece_end, piece_words, piece_checkpoint, resume_refusal, resume_answer, resume_checkpoint, resume_buffer, Outcome, Continues}
 use Rattle.pieces.proofs.Step.{piece_represents}
 
 module _ (s : List ℕ) (c : Checkpoint) (piece : List ℕ) (horizon : ℕ) (room : List ℕ) where
   -- What `resume` promises of its answer and of the buffer after it.
-  abbrev Promised : Resumed → List ℕ → Type 0
+  abbrev Promised : Outcome → List ℕ → Type 0
   Promised r after =
       (r.answer ≡ resume_answer s c piece horizon (length room))
       × ((r.checkpoint ≡ resume_checkpoint s c piece horizon (length room))
@@ -38,7 +37,7 @@ module _ (s : List ℕ) (c : Checkpoint) (piece : List ℕ) (horizon : ℕ) (roo
       )
 
   -- What was run is answered, handed back and written.
-  pub run_outcome : {r : Resumed} {after : List ℕ}
+  pub run_outcome : {r : Outcome} {after : List ℕ}
       → (resume_refusal s c piece horizon (length room)).number ≡ 0
       → (r.answer ≡ success (releases (piece_words s c piece horizon)) (piece_end s c piece horizon).bus.turns)
       × ((r.checkpoint ≡ piece_checkpoint s c piece horizon)

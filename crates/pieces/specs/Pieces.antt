@@ -1,6 +1,6 @@
 -- Document 02, "Seven. Feed the replay as the day goes": a replay that is run piece by piece, from the record that the piece before handed
 -- back. A piece is run over the messages that wait and its own releases, by the turns of specs/Protocol. Rules 5.6 to 5.9. Assumes nothing.
-use Rattle.std.specs.Prelude.{ℕ, suc, ◌+◌, ◌-◌, ◌*◌, ◌<◌, ◌≡◌, cond, ◌||◌, List, [], ◌∷◌, ◌++◌, map, length, take, set, replicate, ltb, eqb}
+use Rattle.std.specs.Prelude.{ℕ, suc, ◌+◌, ◌-◌, ◌*◌, ◌<◌, ◌≡◌, cond, ◌||◌, List, [], ◌∷◌, ◌++◌, map, length, take, set, replicate, ltb, eqb, Result, Ok, Err}
 use Rattle.theory.specs.Listing.{values_from, joined_from}
 use Rattle.model.specs.declared.Answer.{Answer}
 use Rattle.model.specs.declared.Bus.{Bus}
@@ -13,6 +13,8 @@ use Rattle.model.specs.Protocol.{releases, release_tick, release_stream, State, 
 use Rattle.model.specs.Trace.{run_words, replay_words, begin_listed, unbegun}
 use Rattle.model.specs.Answers.{record_refusal, waiting_refusal, room_refusal, piece_refusal, buffer_after}
 use Rattle.model.specs.Demand.{Accepts}
+use Rattle.refusals.specs.declared.Refusal.{Refusal}
+use Rattle.refusals.specs.Numbers.{numbers}
 
 -- The record with nothing waiting, at a horizon, with a next turn and so many releases.
 abbrev pub emptied : ℕ → Bus → ℕ → Checkpoint
@@ -181,9 +183,23 @@ pub record Represents (s log : List ℕ) (c : Checkpoint) (words : List ℕ) : T
   pub waiting : c ≡ holding c log (values_from suc 0 (releases log)) (unbegun (replayed s log c.horizon).begins)
   pub answered : words ≡ replay_words s log c.horizon
 
+-- What a piece answers, and the record that it hands back.
+pub record Outcome : Type 0 where
+  pub answer : Answer
+  pub checkpoint : Checkpoint
+
+-- The numbers of a piece that was run: the messages begun in it, and the turns so far.
+abbrev pub resumed_numbers : Resumed → Answer
+resumed_numbers r = success r.begun r.turns
+
+-- What a piece answers with a record, and hands back: a refusal, the record as it was.
+abbrev pub outcome_of : Checkpoint → Result Resumed Refusal → Outcome
+outcome_of c (Ok r) = record { answer = resumed_numbers r; checkpoint = r.checkpoint }
+outcome_of c (Err refusal) = record { answer = numbers refusal; checkpoint = c }
+
 -- What a piece promises of a record that pieces made: the one handed back, with the words answered, is one of the log with this piece after
 -- it.
-abbrev pub Continues : List ℕ → Checkpoint → List ℕ → Resumed → List ℕ → Type 0
+abbrev pub Continues : List ℕ → Checkpoint → List ℕ → Outcome → List ℕ → Type 0
 Continues s c piece r room =
     (log words : List ℕ)
     → Represents s log c words

@@ -2,22 +2,26 @@
 // horizon, and is handed back by value.
 #![tactic(auto)]
 
-ghost use Rattle.std.specs.Prelude.{◌≡◌, ◌*◌, ◌≤◌, ◌<◌, ◌++◌, length, drop};
+ghost use Rattle.std.specs.Prelude.{◌≡◌, ◌*◌, ◌≤◌, ◌<◌, ◌++◌, length, drop, IfOk, OnErr};
 ghost use Rattle.model.specs.Limits.{release_words, max_time, max_waiting};
 ghost use Rattle.model.specs.Refusal.{success};
 ghost use Rattle.model.specs.Protocol.{releases, none_begun, run};
 ghost use Rattle.model.specs.Trace.{run_words, unbegun};
 ghost use Rattle.queue.specs.Queue.{ValidNode, RisingFrom};
-ghost use Rattle.pieces.specs.Pieces.{fresh_checkpoint, with_release, emptied, holding, piece_end, piece_words, piece_checkpoint, resume_refusal, resume_answer, resume_checkpoint, resume_buffer, Continues};
+ghost use Rattle.pieces.specs.Pieces.{fresh_checkpoint, with_release, emptied, holding, piece_end, piece_words, piece_checkpoint, resume_refusal, resume_answer, resume_checkpoint, resume_buffer, resumed_numbers, outcome_of, Continues};
+ghost use Rattle.refusals.specs.Numbers.{answered};
 
 use check::check_resume;
-use model::{Answer, Bus};
+use model::Bus;
 use open::{open_log, open_numbers};
-use queue::next_unbegun;
+use refusals::Refusal;
 use trace::run_log;
 
 mod check; // check.rt: the refusals of a piece
 mod open; // open.rt: what a piece is run over
+
+// What stands for the begin tick of a release that has not begun.
+const NOT_BEGUN: u32 = u32::MAX;
 
 // What a replay that is run piece by piece hands on from one piece to the next (document 02, "Seven": the "replay's record"): the horizon
 // that it has come to, the bus record of the next turn, the number of releases so far, and the messages that wait, as many as `waiting`
@@ -33,10 +37,11 @@ pub struct Checkpoint {
     pub streams: [u32; 256],
 }
 
-// What a piece answers, and the record that it hands back.
+// What a piece did: how many messages began in it, the turns so far, and the record to go on from.
 #[derive(Clone, Copy)]
 pub struct Resumed {
-    pub answer: Answer,
+    pub begun: u32,
+    pub turns: u32,
     pub checkpoint: Checkpoint,
 }
 
@@ -56,17 +61,17 @@ fn empty(horizon: u32, bus: Bus, releases: u32) -> Checkpoint
 }
 
 // The record with the releases that have not begun waiting, in log order from the first place.
+#[tactic(auto, using(theory::proofs::Holding::holding_few), unfolding(theory::specs::Listing::holding_below))]
 fn hold_unbegun(start: Checkpoint, log: &[u32], numbers: &[u32], begins: &[u32]) -> Checkpoint
     requires start_value { (start ≡ emptied start.horizon start.bus start.releases) × (length begins.now ≤ max_waiting) }
     requires log_value { (releases log.now ≡ length begins.now) × (length numbers.now ≡ length begins.now) }
     ensures { result ≡ holding start log.now numbers.now (unbegun begins.now) }
 {
-    let count = begins.len();
     let mut c = start;
-    let mut i = next_unbegun(begins, 0, count);
-    while i < count {
-        c = c.add_release(numbers[i], log[2 * i], log[2 * i + 1]);
-        i = next_unbegun(begins, i + 1, count);
+    for (i, begin) in begins.iter().enumerate() {
+        if *begin == NOT_BEGUN {
+            c = c.add_release(numbers[i], log[2 * i], log[2 * i + 1]);
+        }
     }
     c
 }
@@ -85,11 +90,11 @@ fn run_open(
 ) -> Resumed
     requires valid_node { ValidNode sheet.now start.node × (start.turns ≤ max_time) × (horizon ≤ max_time) × RisingFrom log.now held × (held ≤ releases log.now) }
     requires log_bound { (releases log.now ≤ max_waiting) × (length numbers.now ≡ releases log.now) × (release_words * releases log.now ≤ length room.old) }
-    ensures answer { result.answer ≡ success (releases (run_words sheet.now log.now numbers.now horizon horizon (none_begun log.now start))) (run sheet.now log.now horizon horizon (none_begun log.now start)).bus.turns }
+    ensures answer { resumed_numbers result ≡ success (releases (run_words sheet.now log.now numbers.now horizon horizon (none_begun log.now start))) (run sheet.now log.now horizon horizon (none_begun log.now start)).bus.turns }
     ensures checkpoint { result.checkpoint ≡ holding (emptied horizon (run sheet.now log.now horizon horizon (none_begun log.now start)).bus total) log.now numbers.now (unbegun (run sheet.now log.now horizon horizon (none_begun log.now start)).begins) }
     ensures buffer { room.new ≡ run_words sheet.now log.now numbers.now horizon horizon (none_begun log.now start) ++ drop (length (run_words sheet.now log.now numbers.now horizon horizon (none_begun log.now start))) room.old }
 {
-    let mut begins: [u32; 256] = [4294967295; 256];
+    let mut begins: [u32; 256] = [NOT_BEGUN; 256];
     let mut found: [usize; 16] = [0; 16];
     let end = run_log(
         sheet,
@@ -106,11 +111,8 @@ fn run_open(
     let next = empty(horizon, end.bus, total);
     let checkpoint = hold_unbegun(next, log, numbers, &begins[..count]);
     Resumed {
-        answer: Answer {
-            number: 0,
-            second: end.begun as u32,
-            third: end.bus.turns,
-        },
+        begun: end.begun as u32,
+        turns: end.bus.turns,
         checkpoint,
     }
 }
@@ -145,7 +147,7 @@ impl Checkpoint {
     // Runs a piece that is not refused.
     fn run_piece(self, sheet: &[u32], piece: &[u32], horizon: u32, room: &mut [u32]) -> Resumed
         requires { (resume_refusal sheet.now self piece.now horizon (length room.old)).number ≡ 0 }
-        ensures answer { result.answer ≡ success (releases (piece_words sheet.now self piece.now horizon)) (piece_end sheet.now self piece.now horizon).bus.turns }
+        ensures answer { resumed_numbers result ≡ success (releases (piece_words sheet.now self piece.now horizon)) (piece_end sheet.now self piece.now horizon).bus.turns }
         ensures checkpoint { result.checkpoint ≡ piece_checkpoint sheet.now self piece.now horizon }
         ensures buffer { room.new ≡ piece_words sheet.now self piece.now horizon ++ drop (length (piece_words sheet.now self piece.now horizon)) room.old }
     {
@@ -172,20 +174,21 @@ impl Checkpoint {
     // A piece: its releases, with ticks from the record's horizon up to below the new one, and the new horizon. Answers how many messages
     // began in it and the turns so far, with the record to go on from; the buffer's first words have release number and begin tick of
     // each message begun, in the order begun. A record that pieces made stands for the log that they were a cutting of, and so does the
-    // one handed back.
-    pub fn resume(self, sheet: &[u32], piece: &[u32], horizon: u32, room: &mut [u32]) -> Resumed
-        ensures answer { result.answer ≡ resume_answer sheet.now self piece.now horizon (length room.old) }
-        ensures checkpoint { result.checkpoint ≡ resume_checkpoint sheet.now self piece.now horizon (length room.old) }
+    // one handed back. Where the piece is refused, the record to go on from is the one that was handed in.
+    pub fn resume(
+        self,
+        sheet: &[u32],
+        piece: &[u32],
+        horizon: u32,
+        room: &mut [u32],
+    ) -> Result<Resumed, Refusal>
+        ensures answer { answered resumed_numbers result ≡ resume_answer sheet.now self piece.now horizon (length room.old) }
+        ensures checkpoint { IfOk result (λ resumed. resumed.checkpoint ≡ resume_checkpoint sheet.now self piece.now horizon (length room.old)) }
+        ensures refused { OnErr result (resume_checkpoint sheet.now self piece.now horizon (length room.old) ≡ self) }
         ensures buffer { room.new ≡ resume_buffer sheet.now self piece.now horizon room.old }
-        ensures whole { Continues sheet.now self piece.now result room.new }
+        ensures whole { Continues sheet.now self piece.now (outcome_of self result) room.new }
     {
-        let refusal = check_resume(sheet, self, piece, horizon, room.len());
-        if refusal.number != 0 {
-            return Resumed {
-                answer: refusal,
-                checkpoint: self,
-            };
-        }
-        self.run_piece(sheet, piece, horizon, room)
+        check_resume(sheet, self, piece, horizon, room.len())?;
+        Ok(self.run_piece(sheet, piece, horizon, room))
     }
 }

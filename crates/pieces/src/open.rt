@@ -15,7 +15,7 @@ pub fn open_log(c: Checkpoint, piece: &[u32], log: &mut [u32])
 {
     let held = layout::wide(c.waiting);
     put_waiting(&c.ticks, &c.streams, held, log);
-    fill::put(piece, &mut log[2 * held..]);
+    log[2 * held..2 * held + piece.len()].copy_from_slice(piece);
 }
 
 // Writes their release numbers into the first words: those of the messages that wait, and then as many after those so far as the piece has
@@ -24,6 +24,6 @@ pub fn open_numbers(c: Checkpoint, count: usize, numbers: &mut [u32])
     requires { (c.releases + count ≤ max_releases) × (c.waiting + count ≤ max_waiting) × (length numbers.old ≡ max_waiting) }
     ensures { take (c.waiting + count) numbers.new ≡ take c.waiting c.numbers ++ values_from suc c.releases count }
 {
-    fill::put(&c.numbers, numbers);
+    numbers.copy_from_slice(&c.numbers);
     put_numbers(c.releases, layout::wide(c.waiting), count, numbers);
 }

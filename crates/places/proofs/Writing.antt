@@ -1,14 +1,13 @@
 -- The waiting places written word by word: as a log, and the release numbers after them. Assumes nothing.
-use Prim.Native.Nat.{ℕ, suc, ◌+◌, ◌-◌, ◌*◌, ◌≤◌, ◌<◌}
-use native.Mathlib.Numerals.{add-one}
+use Prim.Native.Nat.{ℕ, suc, ◌+◌, ◌*◌, ◌≤◌, ◌<◌}
 use native.Mathlib.Omega.{arith}
-use mathlib.Core.Path.{◌≡◌, sym, ◌∙◌, ap}
+use mathlib.Core.Path.{◌≡◌, ◌∙◌, ap}
 use mathlib.Core.List.{List, [], ◌∷◌, ◌++◌}
 use lib.ListN.{length, set, drop, length-append}
 use lib.Seq.{append_snoc}
-use Rattle.theory.specs.Listing.{values_from, joined_from, replaced_at}
-use Rattle.theory.proofs.Listing.{joined_length, joined_next}
-use Rattle.theory.proofs.Overwriting.{over_none, over_set, write_next}
+use Rattle.theory.specs.Listing.{values_from, joined_from}
+use Rattle.theory.proofs.Listing.{joined_length, joined_next, values_length, values_next}
+use Rattle.theory.proofs.Overwriting.{write_next}
 use Rattle.model.specs.Limits.{release_words}
 use Rattle.model.specs.Sheet.{word}
 
@@ -45,27 +44,15 @@ module _ (ticks streams : List ℕ) where
       ∙ ap (λ (xs : List ℕ). xs ++ drop (here + 1 + 1) old) more
       ∙ ap (λ (n : ℕ). joined_from (pair ticks streams) 0 (i + 1) ++ drop n old) end
 
--- What is left of the release numbers makes the whole: one more is written,
-pub numbers_next : (at i number count : ℕ) (numbers : List ℕ) {whole : List ℕ}
-    → i < count
-    → at + i < length numbers
-    → replaced_at numbers (at + i) (values_from suc number (count - i)) ≡ whole
-    → replaced_at (set numbers (at + i) (number + 1)) (at + (i + 1)) (values_from suc (number + 1) (count - (i + 1))) ≡ whole
-unfolding values_from
-numbers_next at i number count numbers {whole} more there rest =
-    let here : ℕ = at + i in
-    let others : List ℕ = values_from suc (suc number) (count - suc i) in
-    let left : count - i ≡ suc (count - suc i) = omega arith in
-    let first = ap (λ n. replaced_at numbers here (values_from suc number n)) left in
-    let end : at + suc i ≡ suc here = omega arith in
-    rw (add-one i, add-one number, end) (sym (over_set numbers here (suc number) others there) ∙ sym first ∙ rest)
-
--- and all are.
-pub numbers_done : (at i number count : ℕ) {numbers whole : List ℕ}
-    → count ≤ i
-    → replaced_at numbers (at + i) (values_from suc number (count - i)) ≡ whole
-    → numbers ≡ whole
-unfolding values_from
-numbers_done at i number count {numbers} done rest =
-    let none : count - i ≡ 0 = omega arith in
-    over_none numbers (at + i) ∙ sym (ap (λ n. replaced_at numbers (at + i) (values_from suc number n)) none) ∙ rest
+-- One release number more is written.
+pub numbers_next : (before i number : ℕ) (old : List ℕ) {places : List ℕ}
+    → i < length old
+    → number ≡ before + i
+    → places ≡ values_from suc before i ++ drop i old
+    → set places i (number + 1) ≡ values_from suc before (i + 1) ++ drop (i + 1) old
+numbers_next before i number old {places} there so_many so_far =
+    let next : number + 1 ≡ suc (before + i) = omega arith in
+    ap (λ (xs : List ℕ). set xs i (number + 1)) so_far
+    ∙ ap (λ n. set (values_from suc before i ++ drop i old) i n) next
+    ∙ write_next (values_from suc before i) old i (suc (before + i)) (values_length suc before i) there
+    ∙ ap (λ (xs : List ℕ). xs ++ drop (i + 1) old) (values_next suc before i)

@@ -39,14 +39,10 @@ fn list_begins(
     ensures { room.new ≡ replaced_at room.old at (begin_words message tick numbers.now (take count places.now)) }
 {
     let mut begin = tick;
-    let mut j: usize = 0;
-    while j < count {
-        let place = places[j];
-        let number = numbers[place];
-        room[at + 2 * j] = number;
+    for (j, place) in places[..count].iter().enumerate() {
+        room[at + 2 * j] = numbers[*place];
         room[at + 2 * j + 1] = begin;
         begin += message;
-        j += 1;
     }
 }
 

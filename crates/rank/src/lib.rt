@@ -7,14 +7,9 @@ ghost use Rattle.model.specs.Analysis.{outranks};
 use model::Stream;
 
 // True where x is ranked above y.
+#[tactic(auto, using(std::proofs::lemmas::Bool::Decides::nat_tests), unfolding(model::specs::Analysis::outranks))]
 pub fn is_above(x: Stream, y: Stream) -> bool
     ensures { result ≡ outranks x y }
 {
-    if x.deadline != y.deadline {
-        return x.deadline < y.deadline;
-    }
-    if x.period != y.period {
-        return x.period < y.period;
-    }
-    x.number < y.number
+    (x.deadline, x.period, x.number) < (y.deadline, y.period, y.number)
 }

@@ -68,6 +68,7 @@ pub fn run_to_with_records(
 {
     let header = turns::header_of(sheet);
     let mut p = runs::start_at(sheet, header, log, horizon, &room[..]);
+    // Kept: no count. A turn moves the clock by as many ticks as its messages and its slot take.
     while p.bus.tick < horizon {
         let bus = p.bus;
         let taken = run_turn_with_records(

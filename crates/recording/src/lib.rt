@@ -1,16 +1,17 @@
 // The replay that keeps a record of each stream beside the begin ticks.
 #![tactic(auto)]
 
-ghost use Rattle.std.specs.Prelude.{◌≡◌, ◌++◌, ◌≤◌, length, drop, replicate};
-ghost use Rattle.model.specs.Limits.{not_begun};
+ghost use Rattle.std.specs.Prelude.{◌≡◌, length, IfOk};
 ghost use Rattle.model.specs.Sheet.{total_streams, Valid};
-ghost use Rattle.model.specs.Protocol.{releases};
 ghost use Rattle.model.specs.Answers.{records_answer, records_buffer, records_list};
 ghost use Rattle.model.specs.Demand.{WholeReplay, NoneOver};
+ghost use Rattle.refusals.specs.Numbers.{checked, answered};
+ghost use Rattle.bus.specs.Numbers.{replayed_numbers};
 ghost use Rattle.recording.specs.Recording.{records_refusal};
 
-use model::{Answer, StreamRecord};
-use range::refuse_if;
+use bus::Replayed;
+use model::StreamRecord;
+use refusals::{Refusal, refuse_if};
 
 // The number of streams of a sheet.
 fn count_streams(sheet: &[u32]) -> usize
@@ -21,22 +22,18 @@ fn count_streams(sheet: &[u32]) -> usize
 }
 
 // The refusals of the replay with a buffer of so many words and a list of so many records: 1 to 5, 9, 10, 6, then 6 for the list.
-fn check_lent(sheet: &[u32], log: &[u32], horizon: u32, room: usize, list: usize) -> Answer
-    ensures { result ≡ records_refusal sheet.now log.now horizon room list }
+#[tactic(auto, using(refusals::proofs::Chains::stops, refusals::proofs::Chains::goes_on), unfolding(crate::specs::Recording::records_refusal, model::specs::Answers::room_refusal))]
+fn check_lent(
+    sheet: &[u32],
+    log: &[u32],
+    horizon: u32,
+    room: usize,
+    list: usize,
+) -> Result<(), Refusal>
+    ensures { checked result ≡ records_refusal sheet.now log.now horizon room list }
 {
-    let refusal = logs::check_replay(sheet, log, horizon, room);
-    if refusal.number != 0 {
-        return refusal;
-    }
-    refuse_if(list < count_streams(sheet), 6, 0, 0)
-}
-
-// Marks all releases of a log as not begun.
-fn clear_begins(log: &[u32], room: &mut [u32])
-    requires { releases log.now ≤ length room.old }
-    ensures { room.new ≡ replicate (releases log.now) not_begun ++ drop (releases log.now) room.old }
-{
-    turns::clear(room, log.len() / 2);
+    logs::check_replay(sheet, log, horizon, room)?;
+    refuse_if(list < count_streams(sheet), Refusal::Room)
 }
 
 // The replay with a list of stream records in sheet order, lent beside the buffer of begin ticks. Numbers and refusals as the replay, then 6
@@ -47,17 +44,14 @@ pub fn replay_with_records(
     horizon: u32,
     room: &mut [u32],
     records: &mut [StreamRecord],
-) -> Answer
-    ensures answer { result ≡ records_answer sheet.now log.now horizon (length room.old) (length records.old) }
+) -> Result<Replayed, Refusal>
+    ensures answer { answered replayed_numbers result ≡ records_answer sheet.now log.now horizon (length room.old) (length records.old) }
     ensures buffer { room.new ≡ records_buffer sheet.now log.now horizon (length records.old) room.old }
     ensures records { records.new ≡ records_list sheet.now log.now horizon (length room.old) records.old }
-    ensures demand { result.number ≡ 0 → WholeReplay sheet.now log.now horizon result.second result.third room.new × NoneOver sheet.now log.now horizon records.new }
+    ensures demand { IfOk result (λ done. WholeReplay sheet.now log.now horizon done.turns done.tick room.new × NoneOver sheet.now log.now horizon records.new) }
 {
-    let refusal = check_lent(sheet, log, horizon, room.len(), records.len());
-    if refusal.number != 0 {
-        return refusal;
-    }
-    clear_begins(log, room);
+    check_lent(sheet, log, horizon, room.len(), records.len())?;
+    turns::clear(room, log.len() / 2);
     let streams = count_streams(sheet);
     records::clear_records(records, streams);
     let mut limits: [u32; 256] = [0; 256];
@@ -72,9 +66,8 @@ pub fn replay_with_records(
         room,
         records,
     );
-    Answer {
-        number: 0,
-        second: end.turns,
-        third: end.tick,
-    }
+    Ok(Replayed {
+        turns: end.turns,
+        tick: end.tick,
+    })
 }

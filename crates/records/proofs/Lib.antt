@@ -1,4 +1,2 @@
--- Laws of the stream records: one more message in a record, a turn's messages noted one by one, a list cleared from its front. Assumes nothing.
-pub mod Clearing
+-- Laws of the stream records: a turn's messages noted one by one. Assumes nothing.
 pub mod NotingSteps
-pub mod OneMore

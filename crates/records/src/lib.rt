@@ -2,7 +2,6 @@
 #![tactic(auto)]
 
 ghost use Rattle.std.specs.Prelude.{◌≡◌, ◌++◌, ◌+◌, ◌*◌, ◌≤◌, ◌<◌, length, take, drop, replicate};
-ghost use Rattle.theory.specs.Count.{larger as larger_of};
 ghost use Rattle.model.specs.Limits.{max_time, max_budget, max_releases, max_slot_ticks};
 ghost use Rattle.model.specs.Sheet.{word};
 ghost use Rattle.model.specs.Protocol.{releases, release_tick, release_stream};
@@ -19,26 +18,18 @@ pub struct Note {
     pub limit: u32,
 }
 
-// The larger of two numbers.
-fn larger(a: u32, b: u32) -> u32
-    ensures { result ≡ larger_of a b }
-{
-    if a < b { b } else { a }
-}
-
 // A record once one message more has begun, after a wait.
 fn noted(old: StreamRecord, wait: u32, limit: u32) -> StreamRecord
     requires { CountsUpTo (max_releases + max_budget) old }
     ensures { result ≡ noted_with limit wait old }
 {
-    let longest = larger(old.longest, wait);
     let mut over = old.over;
     if limit < wait {
         over += 1;
     }
     StreamRecord {
         begun: old.begun + 1,
-        longest,
+        longest: old.longest.max(wait),
         over,
     }
 }
@@ -84,11 +75,9 @@ pub fn note_messages(
     requires can_be_noted { CanBeNoted log.now limits.now (take count places.now) tick max_releases records.old }
     ensures { records.new ≡ noted_from log.now limits.now message tick (take count places.now) records.old }
 {
-    let mut j: usize = 0;
-    while j < count {
+    for j in 0..count {
         let begun = note_of(log, limits, places, message, tick, j);
         note_begin(records, begun);
-        j += 1;
     }
 }
 
@@ -97,13 +86,9 @@ pub fn clear_records(records: &mut [StreamRecord], count: usize)
     requires { count ≤ length records.old }
     ensures { records.new ≡ replicate count none_yet ++ drop count records.old }
 {
-    let mut i: usize = 0;
-    while i < count {
-        records[i] = StreamRecord {
-            begun: 0,
-            longest: 0,
-            over: 0,
-        };
-        i += 1;
-    }
+    records[..count].fill(StreamRecord {
+        begun: 0,
+        longest: 0,
+        over: 0,
+    });
 }

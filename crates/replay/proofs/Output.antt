@@ -1,12 +1,9 @@
 -- The text of what the replay answered and left in its buffer is the program's. Assumes nothing.
-use Prim.Native.Nat.{ℕ, suc, ◌-◌}
-use native.Mathlib.Nat.{suc-ne-zero}
-use native.Mathlib.Omega.{arith}
+use Prim.Native.Nat.{ℕ}
 use mathlib.Core.Path.{◌≡◌, refl, sym, ap, ◌∙◌}
 use mathlib.Core.Bool.{Bool, true, false}
-use mathlib.Core.List.{List, [], ◌∷◌}
-use lib.ListN.{length, get_or, take, drop}
-use lib.Seq.{take-length}
+use mathlib.Core.List.{List}
+use lib.ListN.{length, drop}
 use lib.Dec.{eqb}
 use borrow.Author.Tests.{eqb-true, eqb-false}
 use Rattle.model.specs.declared.Answer.{Answer}
@@ -20,7 +17,7 @@ use Rattle.model.proofs.Protocol.Run.{replayed-length}
 use Rattle.texts.specs.Text.{replay_text}
 use Rattle.texts.proofs.Answered.{replayed as answer-replayed, not_replayed}
 use Rattle.texts.proofs.Front.{begins_front}
-use Rattle.replay.specs.Output.{replayed_text, answer_text}
+use Rattle.replay.specs.Output.{replayed_text}
 
 -- The table shows the begin ticks of the replay, and a refusal none.
 same_text : (begins room : List ℕ) (count : ℕ) (a : Answer)
@@ -51,17 +48,3 @@ answered s log room horizon size e f =
     (λ passes.
     let ok = replay_accepted {s = s} {log = log} {horizon = horizon} {room = max_releases} passes in
     replayed-length s log horizon (valid_fits s ok.valid).header.slot_from))
-
--- A second file with no words.
-pub no_words : (s second : List ℕ) → length second ≡ 0 → replayed_text s (0 ∷ []) 0 ≡ answer_text s second
-no_words s [] none = refl
-no_words s (horizon ∷ log) none = absurd (suc-ne-zero (length log) none)
-
--- One with words: the first, and those after it.
-pub some_words : (s second : List ℕ)
-    → (length second ≡ 0 → ⊥)
-    → replayed_text s (take (length second - 1) (drop 1 second)) (get_or second 0 0) ≡ answer_text s second
-some_words s [] some = absurd (some refl)
-some_words s (horizon ∷ log) some =
-    let rest : suc (length log) - 1 ≡ length log = omega arith in
-    rw (rest, take-length log) refl

@@ -10,6 +10,7 @@ ghost use Rattle.texts.specs.Longest.{longest_replay_text};
 ghost use Rattle.replay.specs.Output.{replayed_text, answer_text, output};
 
 use input::{SECOND_BYTES, SECOND_WORDS, SHEET_BYTES, SHEET_WORDS};
+use refusals::answer_of;
 use std::env::Env;
 use std::fs::{File, Files};
 use std::io::Print;
@@ -28,10 +29,10 @@ fn read_named<R: Files>(rt: &R, name: &[u8], bytes: &mut [u8]) -> usize
     let Ok(path) = str::from_utf8(name) else {
         return 0;
     };
-    match File::open(rt, path) {
-        Ok(mut file) => input::read_full(&mut file, bytes),
-        Err(_) => 0,
-    }
+    let Ok(mut file) = File::open(rt, path) else {
+        return 0;
+    };
+    input::read_full(&mut file, bytes)
 }
 
 // Reads the file that argument i names: nothing where there is no such argument.
@@ -39,12 +40,13 @@ fn read_file<R: Env + Files>(rt: &R, i: usize, bytes: &mut [u8]) -> usize
     ensures { IsPrefixLen result bytes.new }
 {
     let mut name = [0u8; PATH_BYTES];
-    match rt.arg(i, &mut name) {
-        Ok(length) => read_named(rt, &name[..length], bytes),
-        Err(_) => 0,
-    }
+    let Ok(length) = rt.arg(i, &mut name) else {
+        return 0;
+    };
+    read_named(rt, &name[..length], bytes)
 }
 
+// Kept: two functions for the two files, and not one for any argument: each asks for a buffer of its own file's size by that limit's name.
 // Reads the sheet, to one byte past the longest.
 fn read_sheet<R: Env + Files>(rt: &R, bytes: &mut [u8]) -> usize
     requires { length bytes.old ≡ read_bytes longest_sheet }
@@ -68,7 +70,7 @@ fn put_replay(sheet: &[u32], log: &[u32], horizon: u32, text: &mut [u8]) -> usiz
     ensures text { take result text.new ≡ replayed_text sheet.now log.now horizon }
 {
     let mut room = [0u32; 4096];
-    let answer = bus::replay(sheet, log, horizon, &mut room);
+    let answer = answer_of(bus::replay(sheet, log, horizon, &mut room));
     let count = log.len() / 2;
     report::replay_text(text, &room, count as u32, answer)
 }
@@ -80,12 +82,10 @@ fn put_answer(sheet: &[u32], second: &[u32], text: &mut [u8]) -> usize
     ensures counts { IsPrefixLen result text.new }
     ensures text { take result text.new ≡ answer_text sheet.now second.now }
 {
-    if second.len() == 0 {
-        let odd = [0u32; 1];
-        return put_replay(sheet, &odd, 0, text);
+    match second {
+        [] => put_replay(sheet, &[0], 0, text),
+        [horizon, log @ ..] => put_replay(sheet, log, *horizon, text),
     }
-    let horizon = second[0];
-    put_replay(sheet, &second[1..], horizon, text)
 }
 
 // The text for the bytes of the two files.

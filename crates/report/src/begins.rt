@@ -1,50 +1,42 @@
 // The table of a replay.
-ghost use Rattle.digits.specs.Put.{Put};
+ghost use Rattle.digits.specs.Put.{Adds};
 ghost use Rattle.texts.specs.Text.{lines_to, begin_text, begin_line, begin_table};
 
-use digits::{least, put, put_labelled, put_number};
+use digits::Text;
 use layout::word_at;
 
+// The word for a release that has not begun.
+const NOT_BEGUN: u32 = u32::MAX;
+
 // The rest of a line after the release's number.
-fn put_begin(out: &mut [u8], at: usize, begin: u32) -> usize
-    ensures { Put out.old at (begin_text begin) out.new result }
+fn put_begin(text: &mut Text<'_>, begin: u32)
+    ensures { Adds text.old (begin_text begin) text.new }
 {
-    if begin == 4294967295 {
-        return put(out, at, b" -\n");
+    if begin == NOT_BEGUN {
+        text.put(b" -\n");
+        return;
     }
-    let a = put_labelled(out, at, b" ", begin);
-    put(out, a, b"\n")
+    text.put_labelled(b" ", begin);
+    text.put(b"\n");
 }
 
 // The lines of all releases, counted from 1.
-fn put_releases(out: &mut [u8], at: usize, begins: &[u32], count: u32) -> usize
-    ensures { Put out.old at (lines_to (begin_line begins.now) count) out.new result }
+fn put_releases(text: &mut Text<'_>, begins: &[u32], count: u32)
+    ensures { Adds text.old (lines_to (begin_line begins.now) count) text.new }
 {
-    let mut next = least(at, out.len());
-    let mut i: u32 = 0;
-    while i < count {
-        let begin = word_at(begins, i as usize);
-        i += 1;
-        next = put_number(out, next, i);
-        next = put_begin(out, next, begin);
+    for i in 0..count {
+        text.put_number(i + 1);
+        put_begin(text, word_at(begins, i as usize));
     }
-    next
 }
 
 // The whole table.
-pub fn put_begins(
-    out: &mut [u8],
-    at: usize,
-    begins: &[u32],
-    count: u32,
-    turns: u32,
-    tick: u32,
-) -> usize
-    ensures { Put out.old at (begin_table begins.now count turns tick) out.new result }
+pub fn put_begins(text: &mut Text<'_>, begins: &[u32], count: u32, turns: u32, tick: u32)
+    ensures { Adds text.old (begin_table begins.now count turns tick) text.new }
 {
-    let a = put(out, at, b"release begin\n");
-    let b = put_releases(out, a, begins, count);
-    let c = put_labelled(out, b, b"turns ", turns);
-    let d = put_labelled(out, c, b" next ", tick);
-    put(out, d, b"\n")
+    text.put(b"release begin\n");
+    put_releases(text, begins, count);
+    text.put_labelled(b"turns ", turns);
+    text.put_labelled(b" next ", tick);
+    text.put(b"\n");
 }

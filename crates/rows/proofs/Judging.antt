@@ -2,17 +2,17 @@
 use Prim.Native.Nat.{ℕ, ◌+◌, ◌≤◌, ◌<◌}
 use native.Mathlib.Nat.{eq-or-lt_of_le}
 use native.Mathlib.Omega.{arith}
-use mathlib.Core.Path.{◌≡◌, refl, sym, ap}
+use mathlib.Core.Path.{◌≡◌, refl, sym, ap, ◌∙◌}
 use mathlib.Core.Logic.{⊎_elim}
 use mathlib.Core.Bool.{Bool, true, false, ◌||◌, not, true≢false}
 use mathlib.Core.List.{List}
 use lib.Dec.{eqb}
+use Rattle.std.proofs.Math.Bool.{and-true, and-false}
 use borrow.Author.Tests.{eqb-true, eq-eqb, ne_eqb, not-false}
-use Rattle.model.specs.Refusal.{refuse, accepted, refuse_if, first_of}
+use Rattle.model.specs.Refusal.{refuse, accepted, first_of}
 use Rattle.model.specs.Sheet.{nodes}
-use Rattle.model.proofs.Sheet.Refusals.{first_none, first_all, refuse_if_so}
-use Rattle.rounds.specs.Rounds.{late_with, has_late}
-use Rattle.rows.specs.Row.{stuck_at}
+use Rattle.model.proofs.Sheet.Refusals.{first_none, first_all}
+use Rattle.rounds.specs.Rounds.{late_with, has_late, stuck_refusal, goes_on}
 use Rattle.rounds.proofs.Under.{has_late_lem}
 
 -- The nodes up to i are judged: one of them is late, or none.
@@ -50,12 +50,15 @@ module _ (s row : List ℕ) where
   judged_all true judged = sym (ap not (ne_eqb _ 0 (judged.some refl)))
   judged_all false judged = sym (ap not (eq-eqb _ 0 (first_all (late_with s row) 1 (nodes s) (λ k low high. judged.none refl k low (omega arith)))))
 
--- A node that is named is refused,
-pub stuck_named : (node : ℕ) → (node ≡ 0 → ⊥) → stuck_at node ≡ refuse 11 node 0
-unfolding stuck_at
-stuck_named node some = refuse_if_so (refuse 11 node 0) (ap not (ne_eqb node 0 some))
+  -- A round is to come where a stream is late and no node is stuck,
+  pub late_goes_on : (late : Bool)
+      → late ≡ not (eqb (first_of (late_with s row) 1 (nodes s)).number 0)
+      → accepted ≡ stuck_refusal s row
+      → late ≡ goes_on s row
+  unfolding goes_on
+  late_goes_on late judged none = rw (← none) (judged ∙ sym (and-true _))
 
--- and none is with 0.
-pub stuck_unnamed : stuck_at 0 ≡ accepted
-unfolding stuck_at refuse_if
-stuck_unnamed = refl
+  -- and none where one is.
+  pub stuck_stops : (node : ℕ) → refuse 11 node 0 ≡ stuck_refusal s row → false ≡ goes_on s row
+  unfolding goes_on
+  stuck_stops node stuck = rw (← stuck) (sym (and-false _))

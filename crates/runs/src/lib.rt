@@ -39,10 +39,7 @@ fn pass_silent(
     let bus = run.bus;
     let from = next_unbegun(room, run.from, log.len() / 2);
     let to = arrived_by(log, bus.tick, run.to);
-    if from < to {
-        return Position { bus, from, to };
-    }
-    if horizon <= bus.tick {
+    if from < to || horizon <= bus.tick {
         return Position { bus, from, to };
     }
     let until = next_event(log, horizon, bus.tick, to);
@@ -123,6 +120,7 @@ pub fn run_to(
 {
     let header = header_of(sheet);
     let mut p = start_at(sheet, header, log, horizon, &room[..]);
+    // Kept: a while, since each turn moves the clock by its own ticks, and nothing is counted.
     while p.bus.tick < horizon {
         let bus = p.bus;
         let taken = run_turn(sheet, header, log, bus, p.from, p.to, found, room);

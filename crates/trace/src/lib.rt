@@ -2,7 +2,7 @@
 // first releases of the log may stand in any order of their ticks.
 #![tactic(auto)]
 
-ghost use Rattle.std.specs.Prelude.{◌≡◌, ◌⊎◌, ◌*◌, ◌≤◌, ◌<◌, ◌++◌, length, take, drop, replicate};
+ghost use Rattle.std.specs.Prelude.{◌≡◌, ◌*◌, ◌≤◌, ◌<◌, ◌++◌, length, take, drop, replicate};
 ghost use Rattle.model.specs.Limits.{release_words, max_time, max_budget, not_begun};
 ghost use Rattle.model.specs.Protocol.{releases, none_begun, run};
 ghost use Rattle.model.specs.Trace.{run_words};
@@ -13,13 +13,6 @@ use model::Bus;
 use progress::Progress;
 use queue::{arrived_by, next_unbegun};
 
-// The earlier of two ticks.
-fn earlier(a: u32, b: u32) -> u32
-    ensures { (result ≤ a) × (result ≤ b) × ((result ≡ a) ⊎ (result ≡ b)) }
-{
-    if a < b { a } else { b }
-}
-
 // The next tick at which a release that has not begun is due, or the horizon; where one is due already, a tick that is not after this one.
 fn next_due(log: &[u32], begins: &[u32], horizon: u32, tick: u32, from: usize, to: usize) -> u32
     requires { RisingFrom log.now to × Arrived log.now tick to × (tick < horizon) × (releases log.now ≤ length begins.now) × FirstUnbegun log.now begins.now from }
@@ -28,12 +21,13 @@ fn next_due(log: &[u32], begins: &[u32], horizon: u32, tick: u32, from: usize, t
 {
     let mut until = turns::next_event(log, horizon, tick, to);
     let mut i = from;
+    // Kept: a while, since `i` jumps to the next release that has not begun, and counts nothing.
     while i < to {
         let due = log[2 * i];
         if due <= tick {
             return due;
         }
-        until = earlier(until, due);
+        until = until.min(due);
         i = next_unbegun(begins, i + 1, to);
     }
     until
@@ -69,13 +63,13 @@ pub fn run_log(
         to: held,
         begun: 0,
     };
+    // Kept: a while, since each turn moves the clock by its own ticks, and nothing is counted.
     while p.bus.tick < horizon {
         p.from = next_unbegun(&begins[..], p.from, count);
         p.to = arrived_by(log, p.bus.tick, p.to);
         let until = next_due(log, &begins[..], horizon, p.bus.tick, p.from, p.to);
         if p.bus.tick < until {
-            let next = turns::pass_idle(sheet, header, p.bus, until);
-            p.bus = next;
+            p.bus = turns::pass_idle(sheet, header, p.bus, until);
         } else {
             p = p.run_turn(sheet, header, log, numbers, found, begins, room);
         }

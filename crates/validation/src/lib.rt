@@ -1,36 +1,33 @@
 // The tables that a sheet is made from are checked: refusals 2 to 5, for any tables of any lengths.
 #![tactic(auto)]
 
-ghost use Rattle.std.specs.Prelude.{◌≡◌, ◌+◌, ◌≤◌, ◌<◌, ◌^◌};
+ghost use Rattle.std.specs.Prelude.{◌≡◌, ◌+◌, ◌≤◌, ◌<◌, ◌^◌, length};
+ghost use Rattle.model.specs.Limits.{max_nodes};
 ghost use Rattle.model.specs.Refusal.{first_of};
-ghost use Rattle.tables.specs.Tables.{lent_tables};
+ghost use Rattle.refusals.specs.Numbers.{checked};
+ghost use Rattle.tables.specs.Lent.{tables_as};
 ghost use Rattle.tables.specs.Writing.{table_stream_refusal, table_body_refusal, contents_refusal, tables_refusal};
 
 use entries::{check_rows, lengths_differ, node_entry, nodes_outside, sum_up_to};
 use layout::{wide, word_at};
-use model::Answer;
-use range::refuse_if;
+use refusals::{Refusal, first_refusal, refuse_if};
+use tables::Tables;
 
 // Refusals 2 and 3, and 4 of the budgets' length and of the rows.
-fn check_contents(message: u32, slot: u32, counts: &[u32], budgets: &[u32]) -> Answer
-    ensures { result ≡ contents_refusal message slot counts.now budgets.now }
+#[tactic(auto, using(refusals::proofs::Chains::stops, refusals::proofs::Chains::goes_on), unfolding(tables::specs::Writing::contents_refusal))]
+fn check_contents(tables: &Tables<'_>) -> Result<(), Refusal>
+    ensures { checked result ≡ contents_refusal tables.now.message_ticks tables.now.slot_ticks tables.now.counts.now tables.now.budgets.now }
 {
-    let nodes = refuse_if(nodes_outside(counts.len()), 2, 0, 0);
-    if nodes.number != 0 {
-        return nodes;
-    }
-    let ticks = refuse_if(range::ticks_outside(message, slot), 3, 0, 0);
-    if ticks.number != 0 {
-        return ticks;
-    }
-    let lengths = refuse_if(budgets.len() != counts.len(), 4, 0, 0);
-    if lengths.number != 0 {
-        return lengths;
-    }
-    check_rows(counts, budgets, counts.len() as u32)
+    let nodes = tables.counts.len();
+    refuse_if(nodes_outside(nodes), Refusal::Nodes)?;
+    let ticks_wrong = range::ticks_outside(tables.message_ticks, tables.slot_ticks);
+    refuse_if(ticks_wrong, Refusal::Ticks)?;
+    refuse_if(tables.budgets.len() != nodes, Refusal::Length)?;
+    check_rows(tables.counts, tables.budgets, nodes as u32)
 }
 
 // Refusal 5 of stream j of node k, which `before` streams come before.
+#[tactic(auto, unfolding(tables::specs::Writing::table_stream_refusal))]
 fn check_stream(
     periods: &[u32],
     deadlines: &[u32],
@@ -38,9 +35,9 @@ fn check_stream(
     before: usize,
     k: u32,
     j: u32,
-) -> Answer
+) -> Result<(), Refusal>
     requires { (1 ≤ j) × (before + j < 2 ^ 64) }
-    ensures { result ≡ table_stream_refusal periods.now deadlines.now jitters.now before k j }
+    ensures { checked result ≡ table_stream_refusal periods.now deadlines.now jitters.now before k j }
 {
     let at = before + wide(j - 1);
     let wrong = range::times_outside(
@@ -48,7 +45,7 @@ fn check_stream(
         word_at(deadlines, at),
         word_at(jitters, at),
     );
-    refuse_if(wrong, 5, k, j)
+    refuse_if(wrong, Refusal::Times { node: k, stream: j })
 }
 
 // Refusal 5 of node k's streams, `count` of them.
@@ -59,79 +56,51 @@ fn check_body(
     before: usize,
     k: u32,
     count: u32,
-) -> Answer
+) -> Result<(), Refusal>
     requires { before + count < 2 ^ 64 }
-    ensures { result ≡ first_of (table_stream_refusal periods.now deadlines.now jitters.now before k) 1 count }
+    ensures { checked result ≡ first_of (table_stream_refusal periods.now deadlines.now jitters.now before k) 1 count }
 {
-    let mut i: u32 = 0;
-    while i < count {
-        let stream = check_stream(periods, deadlines, jitters, before, k, i + 1);
-        if stream.number != 0 {
-            return stream;
-        }
-        i += 1;
-    }
-    Answer {
-        number: 0,
-        second: 0,
-        third: 0,
-    }
+    let check = |j: u32|
+        requires { (1 ≤ j) × (before + j < 2 ^ 64) }
+    { check_stream(periods, deadlines, jitters, before, k, j) };
+    first_refusal(count, check)
 }
 
 // Refusal 5 of the streams of nodes 1 to n.
-fn check_bodies(
-    counts: &[u32],
-    periods: &[u32],
-    deadlines: &[u32],
-    jitters: &[u32],
-    n: u32,
-) -> Answer
-    ensures { result ≡ first_of (table_body_refusal counts.now periods.now deadlines.now jitters.now) 1 n }
+#[tactic(auto, using(refusals::proofs::Chains::rest_stops, refusals::proofs::Chains::rest_goes_on, model::proofs::Sheet::Refusals::rest_start, model::proofs::Sheet::Refusals::rest_end, theory::proofs::Sums::sum_to_none, theory::proofs::Sums::sum_to_more), unfolding(tables::specs::Writing::table_body_refusal))]
+fn check_bodies(tables: &Tables<'_>, n: u32) -> Result<(), Refusal>
+    ensures { checked result ≡ first_of (table_body_refusal tables.now.counts.now tables.now.periods.now tables.now.deadlines.now tables.now.jitters.now) 1 n }
 {
-    let mut before: usize = 0;
-    let mut i: u32 = 0;
-    while i < n {
-        let count = node_entry(counts, i + 1);
-        let body = check_body(periods, deadlines, jitters, before, i + 1, count);
-        if body.number != 0 {
-            return body;
-        }
+    let mut before = 0;
+    for i in 0..n {
+        let count = node_entry(tables.counts, i + 1);
+        check_body(
+            tables.periods,
+            tables.deadlines,
+            tables.jitters,
+            before,
+            i + 1,
+            count,
+        )?;
         before += wide(count);
-        i += 1;
     }
-    Answer {
-        number: 0,
-        second: 0,
-        third: 0,
-    }
+    Ok(())
 }
 
-// Refusals 2 to 5 of tables, or 0, 0, 0 for tables that make a valid sheet.
-pub fn check_tables(
-    message: u32,
-    slot: u32,
-    counts: &[u32],
-    budgets: &[u32],
-    periods: &[u32],
-    deadlines: &[u32],
-    jitters: &[u32],
-) -> Answer
-    ensures { result ≡ tables_refusal (lent_tables message slot counts.now budgets.now periods.now deadlines.now jitters.now) }
+// Refusals 2 to 5 of tables, or none for tables that make a valid sheet.
+#[tactic(auto, using(refusals::proofs::Chains::stops, refusals::proofs::Chains::goes_on), unfolding(tables::specs::Writing::tables_refusal))]
+pub fn check_tables(tables: &Tables<'_>) -> Result<(), Refusal>
+    ensures { checked result ≡ tables_refusal (tables_as tables.now) }
 {
-    let contents = check_contents(message, slot, counts, budgets);
-    if contents.number != 0 {
-        return contents;
-    }
-    let n = counts.len() as u32;
-    let total = sum_up_to(counts, n);
-    let lengths = refuse_if(
-        lengths_differ(periods.len(), deadlines.len(), jitters.len(), total),
-        4,
-        0,
-        0,
+    check_contents(tables)?;
+    let n = tables.counts.len() as u32;
+    let total = sum_up_to(tables.counts, n);
+    let differ = lengths_differ(
+        tables.periods.len(),
+        tables.deadlines.len(),
+        tables.jitters.len(),
+        total,
     );
-    if lengths.number != 0 {
-        return lengths;
-    }
-    check_bodies(counts, periods, deadlines, jitters, n)
+    refuse_if(differ, Refusal::Length)?;
+    check_bodies(tables, n)
 }

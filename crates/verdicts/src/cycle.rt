@@ -10,10 +10,8 @@ fn budgets_up_to(sheet: &[u32], n: u32) -> u32
     ensures { result ≡ budgets_up_to sheet.now n }
 {
     let mut sum: u32 = 0;
-    let mut i: u32 = 0;
-    while i < n {
-        i += 1;
-        sum += budget_of(sheet, i);
+    for k in 1..=n {
+        sum += budget_of(sheet, k);
     }
     sum
 }

@@ -28,10 +28,9 @@ fn collect_above(
     ensures jitters { take result jitters.new ≡ higher_jitters sheet.now k x }
 {
     let mut n: usize = 0;
-    let mut i: u32 = 0;
-    while i < count {
-        i += 1;
-        let y = stream_there(sheet, place_in_body(body, i), i);
+    for i in 0..count {
+        let j = i + 1;
+        let y = stream_there(sheet, place_in_body(body, j), j);
         periods[n] = y.period;
         jitters[n] = y.jitter;
         if is_above(y, x) {

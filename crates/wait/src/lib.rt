@@ -23,11 +23,7 @@ fn tries_worth(timing: Timing, stream: Stream) -> u32
     ensures { result ≡ tries_worth timing stream }
 {
     let taken = stream.jitter + (timing.budget * timing.message + timing.slot);
-    if taken <= stream.deadline {
-        (stream.deadline + 1 - taken) / timing.cycle
-    } else {
-        0
-    }
+    (stream.deadline + 1).saturating_sub(taken) / timing.cycle
 }
 
 // The listed wait at J, "cycles", where h is the interference in so many.
@@ -66,6 +62,7 @@ fn verdict_from(
     let tries = tries_worth(timing, stream);
     let mut cycles = from;
     let mut reach: u32 = ALL;
+    // Kept: a while, as the search jumps from number to number and counts nothing.
     while cycles <= tries {
         let h = interference_of(periods, jitters, cycles * timing.cycle - 1);
         if h < long(cycles) * long(timing.budget) {

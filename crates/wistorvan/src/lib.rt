@@ -1,5 +1,5 @@
 // The library for programs in C and Rust: the entries under their plain names, each with the contract of the function that it
-// calls. A lent table passes as a pointer to its words and then their number.
+// calls. A lent table passes as a pointer to its words and then their number. Each answers three numbers, since C does.
 #![tactic(auto)]
 
 ghost use Rattle.std.specs.Prelude.{◌≡◌, length, ◌≤◌};
@@ -16,13 +16,15 @@ ghost use Rattle.tables.specs.Writing.{write_answer, write_buffer, ReadsBack, Wr
 ghost use Rattle.edits.specs.Edit.{edit_of, edit_answer, edit_sheet, OthersKept};
 
 use model::{Answer, Bus, StreamRecord};
+use refusals::{answer_of, answer_of_check};
+use tables::Tables;
 
 // Refusals 1 to 5 of a sheet, or 0, 0, 0 for a valid one.
 #[unsafe(no_mangle)]
 pub extern "C" fn wistorvan_check_sheet(sheet: &[u32]) -> Answer
     ensures { result ≡ sheet_refusal sheet.now }
 {
-    sheet::check_sheet(sheet)
+    answer_of_check(sheet::check_sheet(sheet))
 }
 
 // "One stream": its listed wait and J. For a stream of a valid sheet, demand 2 holds of what it answers.
@@ -31,7 +33,7 @@ pub extern "C" fn wistorvan_one_stream(sheet: &[u32], node: u32, stream: u32) ->
     ensures answer { result ≡ one_stream_answer sheet.now node stream }
     ensures demand { Valid sheet.now → OnSheet sheet.now node stream → Judged sheet.now node stream result }
 {
-    analysis::one_stream(sheet, node, stream)
+    answer_of(analysis::one_stream(sheet, node, stream))
 }
 
 // "Admit": the number of streams and C, and the listed waits in the buffer's first words. For a valid sheet, with room enough, demand 2
@@ -42,7 +44,7 @@ pub extern "C" fn wistorvan_admit(sheet: &[u32], room: &mut [u32]) -> Answer
     ensures buffer { room.new ≡ admit_buffer sheet.now room.old }
     ensures demand { Valid sheet.now → total_streams sheet.now ≤ length room.old → AllJudged sheet.now result room.new }
 {
-    analysis::admit(sheet, room)
+    answer_of(analysis::admit(sheet, room))
 }
 
 // "Find the budgets": the sum and the C of the least row of budgets, and the row in the buffer's first sixteen words. For a valid sheet, with
@@ -53,7 +55,7 @@ pub extern "C" fn wistorvan_find_budgets(sheet: &[u32], room: &mut [u32]) -> Ans
     ensures buffer { room.new ≡ find_buffer sheet.now room.old }
     ensures least { Valid sheet.now → max_nodes ≤ length room.old → LeastBudgets sheet.now result room.new }
 {
-    budgets::find_budgets(sheet, room)
+    answer_of(budgets::find_budgets(sheet, room))
 }
 
 // The replay of a log from tick 0 up to a horizon: turns started, the tick the next would start, and a begin tick for each release
@@ -69,7 +71,7 @@ pub extern "C" fn wistorvan_replay(
     ensures buffer { room.new ≡ replay_buffer sheet.now log.now horizon room.old }
     ensures demand { result.number ≡ 0 → WholeReplay sheet.now log.now horizon result.second result.third room.new }
 {
-    bus::replay(sheet, log, horizon, room)
+    answer_of(bus::replay(sheet, log, horizon, room))
 }
 
 // The replay with a list of stream records in sheet order: messages begun, longest wait, and how many waited longer than the listed wait.
@@ -88,7 +90,7 @@ pub extern "C" fn wistorvan_replay_records(
     ensures records { records.new ≡ records_list sheet.now log.now horizon (length room.old) records.old }
     ensures demand { result.number ≡ 0 → WholeReplay sheet.now log.now horizon result.second result.third room.new × NoneOver sheet.now log.now horizon records.new }
 {
-    recording::replay_with_records(sheet, log, horizon, room, records)
+    answer_of(recording::replay_with_records(sheet, log, horizon, room, records))
 }
 
 // "One step": changes the lent bus record in place. Thin: the turn itself takes the record by value.
@@ -103,10 +105,13 @@ pub extern "C" fn wistorvan_step(
     ensures record { rec.new ≡ step_bus sheet.now log.now rec.old room.old }
     ensures buffer { room.new ≡ step_buffer sheet.now log.now rec.old room.old }
 {
-    let b = *rec;
-    let t = bus::turn(sheet, log, b, room);
-    *rec = t.bus;
-    t.answer
+    match bus::turn(sheet, log, *rec, room) {
+        Ok(turned) => {
+            *rec = turned.bus;
+            turned.into()
+        }
+        Err(refusal) => refusal.into(),
+    }
 }
 
 // A piece of a log that is replayed as the day goes: the messages begun in it and the turns so far, and release number and begin tick of each
@@ -125,7 +130,7 @@ pub extern "C" fn wistorvan_resume(
     ensures buffer { room.new ≡ resume_buffer sheet.now (checkpoint_in checkpoint.old) piece.now horizon room.old }
     ensures whole { ContinuesIn sheet.now checkpoint.old piece.now result checkpoint.new room.new }
 {
-    encoding::resume_in(sheet, piece, horizon, checkpoint, room)
+    answer_of(encoding::resume_in(sheet, piece, horizon, checkpoint, room))
 }
 
 // "Write the sheet": a sheet made from tables, in the buffer's first words; the words written and C. What it wrote reads back as the same
@@ -146,7 +151,7 @@ pub extern "C" fn wistorvan_write_sheet(
     ensures reads { result.number ≡ 0 → ReadsBack (lent_tables message_ticks slot_ticks counts.now budgets.now periods.now deadlines.now jitters.now) result.second result.third room.new }
     ensures again { WrittenAgain (lent_tables message_ticks slot_ticks counts.now budgets.now periods.now deadlines.now jitters.now) room.old result room.new }
 {
-    writer::write_sheet(
+    let tables = Tables {
         message_ticks,
         slot_ticks,
         counts,
@@ -154,8 +159,8 @@ pub extern "C" fn wistorvan_write_sheet(
         periods,
         deadlines,
         jitters,
-        room,
-    )
+    };
+    answer_of(writer::write_sheet(&tables, room))
 }
 
 // "The recorder is a guest on the owner's sheet": the period, the deadline and the jitter of a stream of our own node set in the lent sheet, and
@@ -175,5 +180,6 @@ pub extern "C" fn wistorvan_edit_stream(
     ensures valid { result.number ≡ 0 → Valid sheet.new }
     ensures others { OthersKept sheet.old sheet.new own_node }
 {
-    editor::edit_stream(sheet, own_node, node, stream, period, deadline, jitter)
+    let edited = editor::edit_stream(sheet, own_node, node, stream, period, deadline, jitter);
+    answer_of_check(edited)
 }

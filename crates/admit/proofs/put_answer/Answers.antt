@@ -2,12 +2,14 @@
 -- Assumes nothing.
 use native.Mathlib.Omega.{arith}
 use mathlib.Core.Path.{refl, ◌∙◌}
+use Rattle.refusals.proofs.Chains.{matched}
+use Rattle.analysis.specs.Numbers.{admitted_numbers}
 use Rattle.admit.proofs.Output.{admits_valid, answered}
 use Rattle.admit.proofs.put_answer.Goals as goal
 
 pub returns-clause-text : goal.returns-clause-text
 returns-clause-text c =
     let sheet = c.args.sheet.now in
-    let admitted = c.admit-answer.ensures in
-    c.admit_text.ensures.whole (λ passes. admits_valid sheet 256 (rw admitted.answer at passes)) (omega arith)
-    ∙ answered sheet _ refl admitted.answer admitted.buffer
+    let answer = matched admitted_numbers c.admit.result c.answer_of-answer.ensures ∙ c.admit.ensures.answer in
+    c.admit_text.ensures.whole (λ passes. admits_valid sheet 256 (rw answer at passes)) (omega arith)
+    ∙ answered sheet _ refl answer c.admit.ensures.buffer

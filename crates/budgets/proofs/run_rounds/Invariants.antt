@@ -8,8 +8,8 @@ use Rattle.rounds.specs.Rounds.{row_sum}
 use Rattle.budgets.proofs.Running.{Running}
 use Rattle.budgets.proofs.run_rounds.Given as goal
 
-abbrev pub invariant-loop-row : goal.invariant-loop-row
-invariant-loop-row l = (l.room ≡ l.initial.room) × Running l.sheet l.row
+abbrev pub invariant-loop-node : goal.invariant-loop-node
+invariant-loop-node l = (l.room ≡ l.initial.room) × Running l.sheet l.row
 
-abbrev pub decreases-loop-row : goal.decreases-loop-row
-decreases-loop-row l = nodes l.sheet * max_budget + 1 - row_sum l.sheet l.row
+abbrev pub decreases-loop-node : goal.decreases-loop-node
+decreases-loop-node l = nodes l.sheet * max_budget + 1 - row_sum l.sheet l.row

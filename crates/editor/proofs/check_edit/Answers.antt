@@ -4,11 +4,13 @@ use Prim.Native.Nat.{ℕ}
 use mathlib.Core.Path.{◌≡◌, refl, ◌∙◌}
 use mathlib.Core.Bool.{Bool, true, false}
 use mathlib.Core.List.{List}
+use Rattle.std.proofs.Common.{rules}
 use Rattle.model.specs.declared.Answer.{Answer}
 use Rattle.model.specs.Refusal.{success, refuse, refuse_if, ◌or_else◌}
 use Rattle.model.specs.Sheet.{sheet_refusal}
 use Rattle.model.specs.Answers.{unknown_refusal}
-use Rattle.model.proofs.Sheet.Refusals.{or_else_assoc, refused, passed}
+use Rattle.model.proofs.Sheet.Refusals.{or_else_assoc}
+use Rattle.refusals.proofs.Chains.{stops, goes_on}
 use Rattle.edits.specs.Edit.{Edit, edit_of, other_node_refusal, new_words_refusal, edit_answer}
 use Rattle.editor.proofs.check_edit.Goals as goal
 
@@ -25,25 +27,25 @@ unfolding refuse_if ◌or_else◌
 last true k j = refl
 last false k j = refl
 
-pub returns-then-fault-ne0 : goal.returns-then-fault-ne0
-returns-then-fault-ne0 c =
+pub returns-in_err-check_asked : goal.returns-in_err-check_asked
+returns-in_err-check_asked c =
     let a = c.args in
-    in_order a.sheet.now (edit_of a.own_node a.node a.stream a.period a.deadline a.jitter)
-    (refused _ c.check_asked-fault.ensures c.if-fault-ne0.true)
+    let stop = in_order a.sheet.now (edit_of a.own_node a.node a.stream a.period a.deadline a.jitter) (stops _ _ c.in_err-check_asked.ensures) in
+    grind (rules, stop)
 
-pub returns-then-other-ne0 : goal.returns-then-other-ne0
+pub returns-in_err-refuse_if : goal.returns-in_err-refuse_if
 unfolding other_node_refusal
-returns-then-other-ne0 c =
+returns-in_err-refuse_if c =
     let a = c.args in
-    in_order a.sheet.now (edit_of a.own_node a.node a.stream a.period a.deadline a.jitter)
-    (passed c.check_asked-fault.ensures c.if-fault-ne0.false
-    (refused _ c.refuse_if-other.ensures c.if-other-ne0.true))
+    let stop = in_order a.sheet.now (edit_of a.own_node a.node a.stream a.period a.deadline a.jitter)
+    (goes_on c.in_ok-check_asked.ensures (stops _ _ c.in_err-refuse_if.ensures)) in
+    grind (rules, stop)
 
 pub returns : goal.returns
 unfolding other_node_refusal new_words_refusal
 returns c =
     let a = c.args in
     in_order a.sheet.now (edit_of a.own_node a.node a.stream a.period a.deadline a.jitter)
-    (passed c.check_asked-fault.ensures c.if-fault-ne0.false
-    (passed c.refuse_if-other.ensures c.if-other-ne0.false
-    ((rw c.times_outside-wrong.ensures at c.refuse_if.ensures) ∙ last _ a.node a.stream)))
+    (goes_on c.in_ok-check_asked.ensures
+    (goes_on c.in_ok-refuse_if.ensures
+    ((rw c.times_outside-wrong.ensures at c.refuse_if-2.ensures) ∙ last _ a.node a.stream)))

@@ -2,27 +2,21 @@
 -- Assumes nothing.
 use Prim.Native.Nat.{ℕ, ◌+◌, ◌-◌, ◌≤◌}
 use native.Mathlib.Omega.{arith}
-use mathlib.Core.Path.{◌≡◌, ◌∙◌, ap}
+use mathlib.Core.Path.{◌≡◌, refl, sym, ◌∙◌, ap}
 use mathlib.Core.List.{List, [], ◌∷◌, ◌++◌}
 use lib.ListN.{length, take, drop}
+use Rattle.std.proofs.Common.{rules}
 use Rattle.theory.specs.Listing.{replaced_at, put_front}
 use Rattle.theory.proofs.Overwriting.{over_lent, lent_length, put_fits}
-use Rattle.model.specs.declared.Answer.{Answer}
 use Rattle.model.specs.Limits.{stream_words}
-use Rattle.model.specs.Sheet.{stream_at, Valid}
-use Rattle.edits.specs.Edit.{Edit, edit_of, edit_answer, edit_sheet, OthersKept}
+use Rattle.model.specs.Sheet.{stream_at}
+use Rattle.edits.specs.Edit.{Edit, edit_of, edit_answer, edit_sheet}
 use Rattle.edits.proofs.Promise.{edit_refused, edit_done, edit_passes, edit_there, stays_valid, others_kept}
+use Rattle.refusals.proofs.Chains.{refuses}
 use Rattle.editor.proofs.edit_stream.Goals as goal
 use Rattle.editor.proofs.edit_stream.Lts as lts
 use Rattle.editor.proofs.edit_stream.Tie as tie
 use Rattle.editor.proofs.edit_stream.Reads as reads
-
--- The four clauses go by the answer and the words.
-promised : (s : List ℕ) (e : Edit) {a : Answer} {after : List ℕ}
-    → a ≡ edit_answer s e
-    → after ≡ edit_sheet s e
-    → (a ≡ edit_answer s e) × ((after ≡ edit_sheet s e) × ((a.number ≡ 0 → Valid after) × OthersKept s after e.own))
-promised s e answer sheet = (answer, (sheet, (stays_valid s e answer sheet, others_kept s e answer sheet)))
 
 -- The words put into the part that is lent from the stream's place on.
 words-set : (s : List ℕ) (e : Edit) (part : List ℕ) (at : ℕ)
@@ -44,7 +38,7 @@ the-edit c =
 
 no-refusal : (c : lts.After-place_in_body tie.the-claims reads.Pre reads.Post tie.handed_clauses)
     → (edit_answer c.args.sheet.now (the-edit c)).number ≡ 0
-no-refusal c = rw c.check_edit-answer.ensures at c.if-accepted.true
+no-refusal c = sym (ap (λ a. a.number) c.in_ok-check_edit.ensures)
 
 -- The place found is the stream's,
 found : (c : lts.After-place_in_body tie.the-claims reads.Pre reads.Post tie.handed_clauses)
@@ -65,18 +59,18 @@ slice_bounds-put_stream-start c = omega (arith, inside c)
 pub slice_bounds-put_stream-count : goal.slice_bounds-put_stream-count
 slice_bounds-put_stream-count c = omega (arith, inside c)
 
-pub returns-then-accepted : goal.returns-then-accepted
-returns-then-accepted c =
-    let all = (let p = c.before.before.before.before.before in
-    let a = p.args in
-    promised a.sheet.now (the-edit p) p.check_edit-answer.ensures
-    (words-set a.sheet.now (the-edit p) _ p.place_in_body-at.result (no-refusal p) (found p) c.put_stream.ensures)) in
-    record { answer = all.0; sheet = all.1.0; valid = all.1.1.0; others = all.1.1.1 }
-
-pub returns-else-accepted : goal.returns-else-accepted
-returns-else-accepted c =
-    let all = (let a = c.args in
+pub returns-in_err-check_edit : goal.returns-in_err-check_edit
+returns-in_err-check_edit c =
+    let a = c.args in
     let e = edit_of a.own_node a.node a.stream a.period a.deadline a.jitter in
-    let same = c.check_edit-answer.ensures in
-    promised a.sheet.now e same (edit_refused a.sheet.now e (λ none. c.if-accepted.false (rw same none)))) in
-    record { answer = all.0; sheet = all.1.0; valid = all.1.1.0; others = all.1.1.1 }
+    let same = c.in_err-check_edit.ensures in
+    let kept = edit_refused a.sheet.now e (λ none. refuses _ (ap (λ b. b.number) same ∙ none)) in
+    record { answer = grind (rules, same); sheet = kept; valid = grind rules; others = others_kept a.sheet.now e same kept }
+
+pub returns : goal.returns
+returns c =
+    let p = c.before.before.before.before.before in
+    let a = p.args in
+    let same = p.in_ok-check_edit.ensures in
+    let set = words-set a.sheet.now (the-edit p) _ p.place_in_body-at.result (no-refusal p) (found p) c.put_stream.ensures in
+    record { answer = same; sheet = set; valid = stays_valid a.sheet.now (the-edit p) same set refl; others = others_kept a.sheet.now (the-edit p) same set }

@@ -1,14 +1,11 @@
 -- `interference::interference_of` meets its contract: the sum so far is that over the streams so far. Assumes nothing.
-use Prim.Native.Nat.{◌≤◌, ◌-◌, ◌*◌}
+use Prim.Native.Nat.{◌≤◌, ◌*◌}
 use mathlib.Core.Path.{◌≡◌}
 use lib.ListN.{length}
 use Rattle.theory.specs.Sum.{sum_to}
 use Rattle.interference.specs.Periods.{releases_by}
 use Rattle.interference.proofs.interference_of.Given as goal
 
-abbrev pub invariant-loop-i : goal.invariant-loop-i
-invariant-loop-i l =
-    (l.i ≤ length l.periods) × (l.sum ≡ sum_to (releases_by l.periods l.jitters l.w) l.i) × (l.sum ≤ 4294967296 * l.i)
-
-abbrev pub decreases-loop-i : goal.decreases-loop-i
-decreases-loop-i l = length l.periods - l.i
+abbrev pub invariant-loop-period : goal.invariant-loop-period
+invariant-loop-period l =
+    (l.sum ≡ sum_to (releases_by l.periods l.jitters l.w) (length l.yielded)) × (l.sum ≤ 4294967296 * length l.yielded)

@@ -1,4 +1,4 @@
--- `listing::put_nodes` meets its contract: after k turns the lines of the first k nodes are put, and `from` counts their streams.
+-- `listing::put_nodes` meets its contract: the lines of the nodes before this turn's are put, and `from` counts their streams.
 -- Assumes nothing.
 use native.Mathlib.Omega.{arith}
 use mathlib.Core.Path.{refl, sym, ◌∙◌}
@@ -6,23 +6,24 @@ use borrow.Author.Rules.{rules}
 use Rattle.theory.proofs.Sums.{sum_to_none}
 use Rattle.model.specs.Sheet.{stream_count}
 use Rattle.model.proofs.Sheet.NodeSums.{streams_next}
-use Rattle.texts.specs.Text.{lines_to, node_lines}
-use Rattle.digits.proofs.Putting.{nothing}
-use Rattle.texts.proofs.Lines.{next_line}
+use Rattle.texts.specs.Text.{node_lines}
+use Rattle.listing.proofs.Lines.{adds_no_line, adds_next_line}
 use Rattle.listing.proofs.put_nodes.Goals as goal
 
 pub loop-k-init : goal.loop-k-init
-unfolding lines_to
-loop-k-init c = (search rules, sym (sum_to_none (stream_count c.args.sheet.now)), search rules, nothing _ _ c.least-next.ensures)
+loop-k-init c = record {
+  from_streams = sym (sum_to_none (stream_count c.args.sheet.now));
+  from_small = search rules;
+  lines = adds_no_line _;
+}
 
 pub loop-k-preserved : goal.loop-k-preserved
 loop-k-preserved c =
-    let sheet = c.args.sheet.now in
-    let waits = c.args.waits.now in
     let loop = c.loop-k in
-    let here = c.wide-from.ensures.0 ∙ c.stream_count.ensures in (
-      omega arith,
-      streams_next sheet loop.k loop.invariant.1 here,
-      omega arith,
-      next_line (node_lines sheet waits) loop.k refl loop.invariant.3 c.put_node-next.ensures,
-    )
+    let sheet = c.args.sheet.now in
+    let lines = node_lines sheet c.args.waits.now in
+    record {
+      from_streams = streams_next sheet loop.k loop.invariant.from_streams (c.wide-from.ensures.0 ∙ c.stream_count.ensures);
+      from_small = omega arith;
+      lines = adds_next_line lines loop.k refl loop.invariant.lines c.put_node.ensures;
+    }

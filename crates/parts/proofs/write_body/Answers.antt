@@ -1,22 +1,18 @@
 -- `parts::write_body` meets its contract: the streams passed stand at the front of the part, the rest is as it was. The words of the
 -- next go into the part that is lent from there on. Assumes nothing.
 use Prim.Native.Nat.{ℕ, ◌≤◌, ◌*◌, ◌-◌, ◌+◌}
-use mathlib.Core.Path.{◌≡◌, refl, sym, ◌∙◌, ap}
+use mathlib.Core.Path.{◌≡◌, refl, ◌∙◌, ap}
 use mathlib.Core.List.{List, [], ◌∷◌, ◌++◌}
 use native.Mathlib.Omega.{arith}
 use lib.ListN.{length, take, drop}
-use borrow.Rule.Slice.PartMut.{same_len_mid}
 use Rattle.theory.specs.Listing.{replaced_at, put_front}
-use Rattle.theory.proofs.Listing.{joined_nil, joined_next}
-use Rattle.theory.proofs.Overwriting.{over_none, over_next, over_front, lent_length, put_fits}
+use Rattle.theory.proofs.Listing.{joined_next}
+use Rattle.theory.proofs.Overwriting.{over_next, over_front, lent_length, put_fits}
 use Rattle.model.specs.Limits.{stream_words}
 use Rattle.model.specs.Sheet.{word}
 use Rattle.tables.specs.Writing.{stream_words_of, body_of}
 use Rattle.tables.proofs.WrittenWords.{streams_length}
 use Rattle.parts.proofs.write_body.Goals as goal
-use Rattle.parts.proofs.write_body.Lts as lts
-use Rattle.parts.proofs.write_body.Tie as tie
-use Rattle.parts.proofs.write_body.Reads as reads
 
 -- The next stream's words, put into the part that is lent after those passed.
 next-stream : (periods deadlines jitters old body part : List ℕ) (before i at : ℕ) {p d q : ℕ}
@@ -38,44 +34,25 @@ next-stream periods deadlines jitters old body part before i at {p} {d} {q} fits
     over_next old body part (body_of periods deadlines jitters before i) words 0 at (omega (arith, fits, long)) (omega (arith, place, long)) so_far ((rw (period, deadline, jitter) at put) ∙ back)
     ∙ ap (replaced_at old 0) (joined_next (stream_words_of periods deadlines jitters) before i)
 
--- The part has the words of the next stream.
-free : (c : lts.After-word_at3 tie.the-claims reads.Pre reads.Post goal.the-invariant-loop-i goal.the-decreases-loop-i)
-    → c.body_words-at.result + stream_words ≤ length c.loop-i.body
-free c =
-    let l = c.loop-i in
-    let p = c.requires in
-    omega (arith, c.body_words-at.ensures.0, c.loop-i-test.true, l.invariant.1, p.1)
-
-pub loop-i-init : goal.loop-i-init
-loop-i-init c =
-    let a = c.args in
-    (omega arith, refl, over_none a.body.now 0 ∙ ap (replaced_at a.body.now 0) (sym (joined_nil (stream_words_of a.periods.now a.deadlines.now a.jitters.now) a.before)))
-
 pub loop-i-preserved : goal.loop-i-preserved
 loop-i-preserved c =
-    let e = c.before.before.before.before.before.before.before.before.before.before.before.before.before.before.before in
-    let a = e.args in
+    let a = c.args in
     let l = c.loop-i in
-    let inside = c.loop-i-test.true in
     let from = ap (λ n. a.before + n) c.wide.ensures.0 in
-    let room = free c.before.before.before.before.before in (
-      omega (arith, inside),
-      same_len_mid c.body_words-at.result (length l.body - c.body_words-at.result) l.body c.put_stream.new.part c.put_stream.auto.part ∙ l.invariant.1,
-      next-stream a.periods.now a.deadlines.now a.jitters.now a.body.now l.body c.put_stream.new.part a.before l.i _
-          (omega (arith, e.requires.1, inside))
-          room
-          c.body_words-at.ensures.0
-          l.invariant.2
-          (c.word_at.ensures ∙ ap (word a.periods.now) from)
-          (c.word_at-in-loop-i.ensures ∙ ap (word a.deadlines.now) from)
-          (c.word_at-in-loop-i-2.ensures ∙ ap (word a.jitters.now) from)
-          c.put_stream.ensures,
-    )
+    next-stream a.periods.now a.deadlines.now a.jitters.now a.body.now l.body c.put_stream.new.part a.before l.i _
+    (omega arith)
+    (omega arith)
+    c.body_words-at.ensures.0
+    l.invariant
+    (c.word_at.ensures ∙ ap (word a.periods.now) from)
+    (c.word_at-in-loop-i.ensures ∙ ap (word a.deadlines.now) from)
+    (c.word_at-in-loop-i-2.ensures ∙ ap (word a.jitters.now) from)
+    c.put_stream.ensures
 
 pub returns : goal.returns
 returns c =
     let a = c.args in
     let l = c.loop-i in
-    let done : l.i ≡ a.count = omega (arith, c.loop-i-test.false, l.invariant.0) in
+    let done : l.i ≡ a.count = omega arith in
     let long = streams_length a.periods.now a.deadlines.now a.jitters.now a.before a.count in
-    l.invariant.2 ∙ rw done (over_front a.body.now (body_of a.periods.now a.deadlines.now a.jitters.now a.before a.count) ∙ rw long refl)
+    l.invariant ∙ rw done (over_front a.body.now (body_of a.periods.now a.deadlines.now a.jitters.now a.before a.count) ∙ rw long refl)

@@ -1,21 +1,19 @@
 -- `parts::write_rows` meets its contract: the rows passed stand after the header, the rest is as it was, and the next body's place
 -- comes after the streams passed. Assumes nothing.
-use Prim.Native.Nat.{◌≤◌, ◌-◌}
+use Prim.Native.Nat.{ℕ, pred, ◌+◌, ◌≤◌}
 use mathlib.Core.Path.{◌≡◌}
 use lib.ListN.{length}
 use Rattle.theory.specs.Listing.{joined_from, replaced_at}
 use Rattle.model.specs.Limits.{header_words}
 use Rattle.model.specs.Sheet.{body_at}
-use Rattle.tables.specs.Tables.{sum_up_to}
+use Rattle.tables.specs.Tables.{counts_before}
 use Rattle.tables.specs.Writing.{row_of}
 use Rattle.parts.proofs.write_rows.Given as goal
 
-abbrev pub invariant-loop-i : goal.invariant-loop-i
-invariant-loop-i l =
-    (l.i ≤ l.n)
-    × (length l.room ≡ length l.initial.room)
-    × (l.place ≡ body_at l.n (sum_up_to l.counts l.i))
-    × (l.room ≡ replaced_at l.initial.room header_words (joined_from (row_of l.counts l.budgets) 1 l.i))
-
-abbrev pub decreases-loop-i : goal.decreases-loop-i
-decreases-loop-i l = l.n - l.i
+abbrev pub invariant-loop-k : goal.invariant-loop-k
+invariant-loop-k l =
+    let t = l.tables in
+    let n : ℕ = length t.counts.now in
+    (l.k ≤ n + 1)
+    × (l.place ≡ body_at n (counts_before t.counts.now l.k))
+    × (l.room ≡ replaced_at l.initial.room header_words (joined_from (row_of t.counts.now t.budgets.now) 1 (pred l.k)))

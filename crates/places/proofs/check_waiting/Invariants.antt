@@ -1,5 +1,4 @@
 -- `places::check_waiting` meets its contract: what is left of the row of checks equals the whole. Assumes nothing.
-use Prim.Native.Nat.{◌≤◌, ◌-◌}
 use mathlib.Core.Path.{◌≡◌}
 use Rattle.model.specs.Refusal.{first_of}
 use Rattle.model.specs.Sheet.{total_streams}
@@ -9,7 +8,4 @@ use Rattle.places.proofs.check_waiting.Given as goal
 
 abbrev pub invariant-loop-i : goal.invariant-loop-i
 invariant-loop-i l =
-    (l.i ≤ l.waiting) × (l.total ≡ total_streams l.sheet) × (rest (waiting_refusal l.sheet l.streams) l.i l.waiting ≡ first_of (waiting_refusal l.sheet l.streams) 1 l.waiting)
-
-abbrev pub decreases-loop-i : goal.decreases-loop-i
-decreases-loop-i l = l.waiting - l.i
+    (l.total ≡ total_streams l.sheet) × (rest (waiting_refusal l.sheet l.streams) l.i l.waiting ≡ first_of (waiting_refusal l.sheet l.streams) 1 l.waiting)

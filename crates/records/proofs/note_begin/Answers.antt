@@ -1,6 +1,9 @@
 -- `records::note_begin` meets its contract. Assumes nothing.
-use Rattle.records.proofs.OneMore.{noted_in_lem}
+use Rattle.std.proofs.Common.{ap}
+use Rattle.std.proofs.Math.ListN.{set}
+use Rattle.records.specs.Noting.{noted_in}
 use Rattle.records.proofs.note_begin.Goals as goal
 
 pub returns : goal.returns
-returns c = noted_in_lem _ _ _ c.noted-new.ensures
+unfolding noted_in
+returns c = ap (set c.args.records.now c.args.begun.at) c.noted-new.ensures

@@ -1,34 +1,44 @@
--- `rows::first_row` meets its contract: the words up to the present one are 1, and the others 0. Assumes nothing.
-use Prim.Native.Nat.{◌≤◌}
-use mathlib.Core.Path.{◌≡◌, refl}
+-- `rows::first_row` meets its contract: the words of the nodes are 1, and the others 0. Assumes nothing.
+use Prim.Native.Nat.{ℕ, ◌≤◌, ◌-◌}
+use mathlib.Core.Path.{◌≡◌, refl, sym, ap, ◌∙◌}
 use native.Mathlib.Omega.{arith}
+use mathlib.Core.List.{◌++◌}
+use lib.ListN.{drop, replicate, length-append, get_or-append}
+use Rattle.std.proofs.lemmas.List.{length-take-le, drop-replicate, length-replicate, get_or-replicate, get_or-append_right}
 use Rattle.model.specs.Sheet.{nodes}
 use Rattle.model.proofs.Sheet.ValidSheet.{valid_fits}
 use Rattle.rounds.specs.Rounds.{first_row}
-use Rattle.rounds.proofs.Rows.{made_word, made_row}
+use Rattle.rounds.proofs.Rows.{Making, made_row, zero_word}
 use Rattle.rows.proofs.first_row.Goals as goal
-use Rattle.rows.proofs.first_row.Lts as lts
-use Rattle.rows.proofs.first_row.Tie as tie
-use Rattle.rows.proofs.first_row.Reads as reads
+use Rattle.rows.proofs.first_row.Goals.{After-wide-n}
 
 -- A node has a word in the row.
-few : (c : lts.After-wide tie.the-claims reads.Pre reads.Post goal.the-invariant-loop-i goal.the-decreases-loop-i) → c.word_at-n.result ≤ 16
-few c =
-    let s = c.args.sheet.now in
-    omega (arith, c.word_at-n.ensures, (valid_fits s c.requires).header.nodes_to)
+few : (c : After-wide-n) → c.wide-n.result ≤ 16
+few c = omega (arith, c.word_at.ensures, (valid_fits c.args.sheet.now c.requires).header.nodes_to)
 
-pub bounds-row-wide : goal.bounds-row-wide
-bounds-row-wide c = omega (arith, c.wide.ensures.0, c.loop-i-test.true, few c.before)
+-- The first n words of sixteen are 1, and the others 0.
+first_ones : (k n : ℕ) → n ≡ k → n ≤ 16 → Making (λ p. 1) (λ p. 0) k (replicate n 1 ++ drop n (replicate 16 0))
+first_ones k n same inside =
+    let rest = drop-replicate {X = ℕ} n 16 0 in
+    let ones = length-replicate {A = ℕ} n 1 in
+    rw (← same, rest)
+    (record {
+      sixteen = simp (length-append, length-replicate) (omega arith);
+      before = λ p below. get_or-append (replicate n 1) _ 0 p (rw ones below) ∙ get_or-replicate n p 1 0 below;
+      after = λ p above. get_or-append_right (replicate n 1) (replicate (16 - n) 0) n p 0 ones above ∙ zero_word (16 - n) (p - n);
+    })
 
-pub loop-i-preserved : goal.loop-i-preserved
-loop-i-preserved c =
-    let l = c.loop-i in
-    (omega arith, rw c.wide.ensures.0 (made_word l.invariant.1 1 (omega (arith, c.loop-i-test.true, few c.before)) refl))
+pub slice_bounds-row-end : goal.slice_bounds-row-end
+slice_bounds-row-end c = few c
+
+pub slice_bounds-fill-end : goal.slice_bounds-fill-end
+slice_bounds-fill-end c = sym (length-take-le _ (replicate 16 0) (few (goal.at.slice_bounds-fill-end c).After-wide-n))
 
 pub returns : goal.returns
 unfolding first_row
 returns c =
-    let s = c.args.sheet.now in
-    let l = c.loop-i in
-    let last : l.i ≡ nodes s = omega (arith, c.loop-i-test.false, l.invariant.0, c.word_at-n.ensures) in
-    made_row (λ k. 1) (λ p. 0) (nodes s) l.row (rw last at l.invariant.1) (λ p past. refl)
+    let n = c.wide-n.result in
+    let here = few (goal.at.returns c).After-wide-n in
+    let e : n ≡ nodes c.args.sheet.now = omega (arith, c.word_at.ensures, c.wide-n.ensures) in
+    let filled = c.fill.ensures.after (λ y e. e) ∙ ap (λ m. replicate m 1) (length-take-le n (replicate 16 0) here) in
+    rw filled (made_row (λ k. 1) (λ p. 0) (nodes c.args.sheet.now) _ (first_ones _ n e here) (λ p past. refl))

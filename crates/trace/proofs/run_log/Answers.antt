@@ -22,7 +22,7 @@ loop-p-smaller-then-p-until c =
     let here = c.loop-p in
     let slot = (valid_fits s here.invariant.1.running.node.valid).header.slot_from in
     let silent = silent_before (slot_ticks s) here.p.bus.tick c.next_due-until.result slot c.if-p-until.true in
-    rw c.pass_idle-next.ensures (omega (arith, silent.some, silent.few, c.loop-p-test.true))
+    rw c.pass_idle-p.ensures (omega (arith, silent.some, silent.few, c.loop-p-test.true))
 
 pub loop-p-preserved-then-p-until : goal.loop-p-preserved-then-p-until
 loop-p-preserved-then-p-until c =
@@ -33,7 +33,7 @@ loop-p-preserved-then-p-until c =
     let next = c.next_unbegun.ensures in
     let first : FirstUnbegun a.log.now c.loop-p.begins c.next_unbegun.result = moved_on here.1.running.begun (omega (arith, next.range.1, here.1.running.from_in_log)) next.begun next.unbegun in (
       here.0,
-      rw c.pass_idle-next.ensures
+      rw c.pass_idle-p.ensures
           (tracing_idle a.sheet.now a.log.now a.numbers.now a.held a.horizon first arrived.arrived (omega (arith, here.1.held_to, arrived.more)) c.if-p-until.true due.range (due.quiet c.if-p-until.true) here.1),
     )
 

@@ -20,22 +20,13 @@ no-earlier log to rising i after there =
     after
     there
 
-pub returns-then-next-horizon : goal.returns-then-next-horizon
-returns-then-next-horizon c =
+pub returns : goal.returns
+returns c =
     let a = c.args in
     let pre = c.requires in
+    let next = pre.1.later a.to (le_refl _) (omega arith) in
     record {
-      later = pre.1.later a.to (le_refl _) (omega (arith, c.if-log-to.false));
-      in_run = omega (arith, c.if-next-horizon.true);
-      quiet = no-earlier a.log.now a.to pre.0;
-    }
-
-pub returns-else-next-horizon : goal.returns-else-next-horizon
-returns-else-next-horizon c =
-    let a = c.args in
-    let pre = c.requires in
-    record {
-      later = pre.2;
-      in_run = le_refl _;
-      quiet = λ i after there. omega (arith, no-earlier a.log.now a.to pre.0 i after there, c.if-next-horizon.false);
+      later = omega (arith, next);
+      in_run = omega arith;
+      quiet = λ i after there. omega (arith, no-earlier a.log.now a.to pre.0 i after there);
     }

@@ -1,6 +1,6 @@
 -- `validation::check_bodies` meets its contract: what is left of the row of checks equals the whole, and the streams passed are those of the
 -- nodes passed. Assumes nothing.
-use Prim.Native.Nat.{◌≤◌, ◌*◌, ◌-◌}
+use Prim.Native.Nat.{◌≤◌, ◌*◌}
 use mathlib.Core.Path.{◌≡◌}
 use Rattle.model.specs.Refusal.{first_of}
 use Rattle.model.proofs.Sheet.Refusals.{rest}
@@ -10,10 +10,8 @@ use Rattle.validation.proofs.check_bodies.Given as goal
 
 abbrev pub invariant-loop-i : goal.invariant-loop-i
 invariant-loop-i l =
-    (l.i ≤ l.n)
-    × (l.before ≡ sum_up_to l.counts l.i)
+    let t = l.tables in
+    let body = table_body_refusal t.counts.now t.periods.now t.deadlines.now t.jitters.now in
+    (l.before ≡ sum_up_to t.counts.now l.i)
     × (l.before ≤ 4294967295 * l.i)
-    × (rest (table_body_refusal l.counts l.periods l.deadlines l.jitters) l.i l.n ≡ first_of (table_body_refusal l.counts l.periods l.deadlines l.jitters) 1 l.n)
-
-abbrev pub decreases-loop-i : goal.decreases-loop-i
-decreases-loop-i l = l.n - l.i
+    × (rest body l.i l.n ≡ first_of body 1 l.n)

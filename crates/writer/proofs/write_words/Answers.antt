@@ -8,7 +8,8 @@ use Rattle.theory.specs.Listing.{replaced_at, put_front}
 use Rattle.theory.proofs.Overwriting.{put_fits, over_front, over_more}
 use Rattle.model.specs.Limits.{header_words}
 use Rattle.model.specs.Sheet.{first_body_at, body_at}
-use Rattle.tables.specs.Tables.{Tables, lent_tables, sum_of}
+use Rattle.tables.specs.Tables.{Tables, sum_of}
+use Rattle.tables.specs.Lent.{tables_as}
 use Rattle.tables.specs.Writing.{header_of, rows_of, bodies_of, written}
 use Rattle.tables.proofs.WrittenWords.{rows_length}
 use Rattle.writer.proofs.write_words.Goals as goal
@@ -37,6 +38,4 @@ parts-written t room one two three fits header rows bodies =
 
 pub returns : goal.returns
 returns c =
-    let a = c.args in
-    let t = lent_tables a.message a.slot a.counts.now a.budgets.now a.periods.now a.deadlines.now a.jitters.now in
-    parts-written t a.room.now _ _ _ c.requires.2 c.put_header.ensures c.write_rows.ensures c.write_bodies.ensures
+    parts-written (tables_as c.args.tables.now) c.args.room.now _ _ _ c.requires.2 c.put_header.ensures c.write_rows.ensures c.write_bodies.ensures

@@ -20,14 +20,13 @@ use Rattle.analysis.proofs.judge.judge_node.Reads as reads
 free : (c : lts.After-wide tie.the-claims reads.Pre reads.Post goal.the-invariant-loop-i goal.the-decreases-loop-i tie.handed_clauses) → c.wide.result < length c.loop-i.waits
 free c =
     let l = c.loop-i in
-    omega (arith, c.wide.ensures.0, l.invariant.1, c.loop-i-test.true, c.stream_count-count.ensures, c.requires.4)
+    omega (arith, c.wide.ensures.0, l.invariant.0, c.loop-i-test.true, c.stream_count-count.ensures, c.requires.4)
 
 pub loop-i-init : goal.loop-i-init
 unfolding node_late_with
 loop-i-init c =
     let a = c.args in
     let row = late_at a.sheet.now a.k in (
-      omega arith,
       refl,
       rest_start row _ ∙ ap (first_of row 1) c.stream_count-count.ensures,
       waits_all a.sheet.now a.k c.stream_count-count.result,
@@ -37,9 +36,9 @@ pub returns-in-Late : goal.returns-in-Late
 returns-in-Late c =
     let a = c.args in
     let l = c.loop-i in
-    let late = sym c.verdict_on-verdict.ensures ∙ c.in-Late.is in record {
-      answer = rest_stop (late_at a.sheet.now a.k) l.i _ c.loop-i-test.true (late_refused a.k (l.i + 1) late) (suc-ne-zero 6) l.invariant.2;
-      buffer = λ z. absurd (suc-ne-zero 6 z);
+    let late = sym c.verdict_on.ensures ∙ c.in-Late.is in record {
+      answer = rest_stop (late_at a.sheet.now a.k) l.i _ c.loop-i-test.true (late_refused a.k (l.i + 1) late) (suc-ne-zero 6) l.invariant.1;
+      buffer = tt;
     }
 
 pub loop-i-preserved : goal.loop-i-preserved
@@ -47,12 +46,11 @@ loop-i-preserved c =
     let a = c.args in
     let l = c.loop-i in
     let inside = c.loop-i-test.true in
-    let found = sym c.verdict_on-verdict.ensures ∙ c.in-Listed.is in
+    let found = sym c.verdict_on.ensures ∙ c.in-Listed.is in
     let i = c.wide.ensures.0 in (
-      omega arith,
-      simp length-set l.invariant.1,
-      rest_on (late_at a.sheet.now a.k) l.i _ inside (listed_accepted a.k (l.i + 1) found) refl l.invariant.2,
-      rw i (fill_one l.waits l.i _ (rw i at (free c.before)) (waits_next a.sheet.now a.k l.i _ inside found) l.invariant.3),
+      simp length-set l.invariant.0,
+      rest_on (late_at a.sheet.now a.k) l.i _ inside (listed_accepted a.k (l.i + 1) found) refl l.invariant.1,
+      rw i (fill_one l.waits l.i _ (rw i at (free c.before)) (waits_next a.sheet.now a.k l.i _ inside found) l.invariant.2),
     )
 
 pub returns : goal.returns
@@ -61,8 +59,8 @@ returns c =
     let l = c.loop-i in
     let count = c.stream_count-count.ensures in
     let done : l.i ≡ c.stream_count-count.result = omega arith in
-    let filled = fill_end (take l.i l.waits) (waits_none a.sheet.now a.k l.i _ c.loop-i-test.false) l.invariant.3 in
+    let filled = fill_end (take l.i l.waits) (waits_none a.sheet.now a.k l.i _ c.loop-i-test.false) l.invariant.2 in
     record {
-      answer = rest_end (late_at a.sheet.now a.k) l.i _ c.loop-i-test.false l.invariant.2;
-      buffer = λ z. rw (done ∙ count, count) at filled;
+      answer = rest_end (late_at a.sheet.now a.k) l.i _ c.loop-i-test.false l.invariant.1;
+      buffer = rw (done ∙ count, count) at filled;
     }

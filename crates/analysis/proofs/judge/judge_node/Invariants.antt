@@ -1,7 +1,6 @@
 -- `analysis::judge::judge_node` meets its contract: what is left of the row of checks equals the whole, and so do the waits listed and those
 -- that are left.
 -- Assumes nothing.
-use Prim.Native.Nat.{◌≤◌, ◌-◌}
 use mathlib.Core.Path.{◌≡◌}
 use mathlib.Core.List.{◌++◌}
 use lib.ListN.{length, take}
@@ -12,10 +11,6 @@ use Rattle.analysis.proofs.judge.judge_node.Given as goal
 
 abbrev pub invariant-loop-i : goal.invariant-loop-i
 invariant-loop-i l =
-    (l.i ≤ l.count)
-    × (length l.waits ≡ length l.initial.waits)
+    (length l.waits ≡ length l.initial.waits)
     × (rest (late_at l.sheet l.k) l.i l.count ≡ node_late_refusal l.sheet l.k)
     × (take l.i l.waits ++ waits_left l.sheet l.k l.i l.count ≡ waits_from l.sheet l.k 1 l.count)
-
-abbrev pub decreases-loop-i : goal.decreases-loop-i
-decreases-loop-i l = l.count - l.i

@@ -1,7 +1,6 @@
 -- `analysis::judge::judge_nodes` meets its contract: what is left of the row of checks equals the whole, and so do the waits listed and those
 -- that are left. The waits of the next node go into the part of the buffer that is lent from `at` on.
 -- Assumes nothing.
-use Prim.Native.Nat.{◌≤◌, ◌-◌}
 use mathlib.Core.Path.{◌≡◌}
 use mathlib.Core.List.{◌++◌}
 use lib.ListN.{length, take}
@@ -14,11 +13,7 @@ use Rattle.analysis.proofs.judge.judge_nodes.Given as goal
 
 abbrev pub invariant-loop-i : goal.invariant-loop-i
 invariant-loop-i l =
-    (l.i ≤ l.n)
-    × (length l.waits ≡ length l.initial.waits)
+    (length l.waits ≡ length l.initial.waits)
     × (l.at ≡ streams_up_to l.sheet l.i)
     × (rest (node_late_refusal l.sheet) l.i l.n ≡ first_of (node_late_refusal l.sheet) 1 l.n)
     × (take l.at l.waits ++ nodes_left l.sheet l.i l.n ≡ node_waits l.sheet 1 l.n)
-
-abbrev pub decreases-loop-i : goal.decreases-loop-i
-decreases-loop-i l = l.n - l.i

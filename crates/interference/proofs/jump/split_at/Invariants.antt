@@ -1,7 +1,6 @@
 -- `interference::jump::split_at` meets its contract: each sum so far is that over the streams so far. Assumes nothing.
-use Prim.Native.Nat.{◌≤◌, ◌-◌, ◌+◌, ◌*◌}
+use Prim.Native.Nat.{◌≤◌, ◌+◌, ◌*◌}
 use mathlib.Core.Path.{◌≡◌}
-use lib.ListN.{length}
 use Rattle.theory.specs.Sum.{sum_to}
 use Rattle.model.specs.Limits.{max_time}
 use Rattle.interference.specs.Periods.{entry}
@@ -11,13 +10,9 @@ use Rattle.interference.proofs.jump.split_at.Given as goal
 
 abbrev pub invariant-loop-i : goal.invariant-loop-i
 invariant-loop-i l =
-    (l.i ≤ length l.periods)
-    × (l.held ≡ sum_to (λ n. held_by l.reach l.w (entry l.periods n) (entry l.jitters n)) l.i)
+    (l.held ≡ sum_to (λ n. held_by l.reach l.w (entry l.periods n) (entry l.jitters n)) l.i)
     × (l.ahead ≡ sum_to (λ n. ahead_by l.reach (entry l.periods n) (entry l.jitters n)) l.i)
     × (l.rate ≡ sum_to (λ n. rated_by l.reach l.cycle (entry l.periods n)) l.i)
     × (l.held ≤ (2 * max_time + 1) * l.i)
     × (l.ahead ≤ scale * l.i)
     × (l.rate ≤ max_cycle * scale * l.i)
-
-abbrev pub decreases-loop-i : goal.decreases-loop-i
-decreases-loop-i l = length l.periods - l.i

@@ -2,30 +2,20 @@
 -- the next release must not be below. Assumes nothing.
 use Prim.Native.Nat.{◌+◌}
 use mathlib.Core.Path.{refl}
-use native.Mathlib.Omega.{arith}
 use native.Mathlib.Numerals.{add-one}
 use Rattle.model.specs.Answers.{tick_before, piece_release_refusal}
-use Rattle.model.proofs.Sheet.Refusals.{rest_start, rest_on, rest_stop, rest_end}
+use Rattle.model.proofs.Sheet.Refusals.{rest_start}
+use Rattle.refusals.proofs.Chains.{rest_goes_on}
 use Rattle.logs.proofs.reader.check_releases.Goals as goal
 
 pub loop-i-init : goal.loop-i-init
 unfolding tick_before
 loop-i-init c =
     let a = c.args in (
-      omega arith,
       refl,
       rw c.word_at.ensures at c.streams_up_to-streams.ensures,
       rest_start (piece_release_refusal a.sheet.now a.old a.new a.log.now) _,
     )
-
-pub returns-then-release-ne0 : goal.returns-then-release-ne0
-returns-then-release-ne0 c =
-    let a = c.args in
-    rest_stop (piece_release_refusal a.sheet.now a.old a.new a.log.now) _ _
-    c.loop-i-test.true
-    c.check_release-release.ensures
-    c.if-release-ne0.true
-    c.loop-i.invariant.3
 
 pub loop-i-preserved : goal.loop-i-preserved
 unfolding tick_before
@@ -33,17 +23,7 @@ loop-i-preserved c =
     let a = c.args in
     let inv = c.loop-i.invariant in
     let i = c.loop-i.i in (
-      omega arith,
       rw (add-one (i + 1), add-one i) refl,
-      inv.2,
-      rest_on (piece_release_refusal a.sheet.now a.old a.new a.log.now) _ _
-          c.loop-i-test.true
-          c.check_release-release.ensures
-          c.if-release-ne0.false
-          inv.3,
+      inv.1,
+      rest_goes_on (piece_release_refusal a.sheet.now a.old a.new a.log.now) _ _ c.loop-i-test.true c.in_ok-check_release.ensures inv.2,
     )
-
-pub returns : goal.returns
-returns c =
-    let a = c.args in
-    rest_end (piece_release_refusal a.sheet.now a.old a.new a.log.now) _ _ c.loop-i-test.false c.loop-i.invariant.3

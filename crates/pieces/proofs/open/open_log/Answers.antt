@@ -1,7 +1,5 @@
 -- `pieces::open::open_log` meets its contract: the piece is put after the log of the messages that wait. Assumes nothing.
 use native.Mathlib.Omega.{arith}
-use mathlib.Core.Path.{refl}
-use lib.ListN.{length}
 use Rattle.pieces.proofs.Opening.{opened_log}
 use Rattle.pieces.proofs.open.open_log.Goals as goal
 
@@ -9,5 +7,4 @@ pub returns : goal.returns
 returns c =
     let a = c.args in
     let pre = c.requires in
-    opened_log a.c a.piece.now a.log.now c.wide-held.result (length c.put_waiting.new.log) c.wide-held.ensures.0 pre.0 refl (omega (arith, pre.1, c.put_waiting.auto.log))
-    c.put_waiting.ensures c.put.ensures
+    rw c.copy_from_slice.ensures.after (opened_log a.c a.piece.now a.log.now c.put_waiting.new.log c.wide-held.result _ c.wide-held.ensures.0 pre.0 (omega arith) (omega (arith, pre.1, c.put_waiting.auto.log)) c.put_waiting.ensures)

@@ -3,17 +3,17 @@
 use borrow.Author.Tests.{eq-eqb, ne_eqb}
 use Rattle.model.specs.Limits.{not_begun}
 use Rattle.texts.specs.Text.{begin_text}
-use Rattle.digits.proofs.Putting.{then}
+use Rattle.digits.proofs.Putting.{adds_then}
 use Rattle.report.proofs.begins.put_begin.Goals as goal
 
-pub returns-then-begin-eq4294967295 : goal.returns-then-begin-eq4294967295
+pub returns-then-begin-eq-NOT_BEGUN : goal.returns-then-begin-eq-NOT_BEGUN
 unfolding begin_text
-returns-then-begin-eq4294967295 c =
+returns-then-begin-eq-NOT_BEGUN c =
     let begin = c.args.begin in
-    rw (eq-eqb begin not_begun c.if-begin-eq4294967295.true) c.put.ensures
+    rw (eq-eqb begin not_begun c.if-begin-eq-NOT_BEGUN.true) c.put.ensures
 
 pub returns : goal.returns
 unfolding begin_text
 returns c =
     let begin = c.args.begin in
-    rw (ne_eqb begin not_begun c.if-begin-eq4294967295.false) (then c.put_labelled-a.ensures c.put-2.ensures)
+    rw (ne_eqb begin not_begun c.if-begin-eq-NOT_BEGUN.false) (adds_then c.put_labelled.ensures c.put-2.ensures)

@@ -1,0 +1,2 @@
+-- What the contracts of the bus cite beside the definitions of the model.
+pub mod Numbers

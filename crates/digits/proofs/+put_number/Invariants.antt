@@ -1,5 +1,0 @@
--- `digits::put_number` ends: it calls itself on a tenth of its number. Assumes nothing.
-use Rattle.digits.proofs.+put_number.Given as goal
-
-abbrev pub decreases-put_number : goal.decreases-put_number
-decreases-put_number l = l.n

@@ -1,2 +1,0 @@
--- Laws that the proofs of the log reader cite. Assumes nothing.
-pub mod Tested

@@ -1,0 +1,2 @@
+-- Laws that the proofs of the parts cite.
+pub mod Counting
