@@ -51,7 +51,8 @@ fn load(bytes: &[u8], words: &mut [u32]) -> usize
     chunks.len()
 }
 
-// Kept: `load_sheet` and `load_second`, and not one function for a table of any size: each holds its constant to the limit that it names.
+// Kept: `load_sheet` and `load_second` are two, since one for a table of any size would be no plainer: its clause `valid` would go by cases of the
+// size, and each now holds its constant to the limit that it names.
 // The words of a sheet. The limit turns no valid sheet away.
 pub fn load_sheet(bytes: &[u8], words: &mut [u32; SHEET_WORDS]) -> usize
     ensures loaded { Loaded longest_sheet bytes.now words.old words.new result }

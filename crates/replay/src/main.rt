@@ -46,7 +46,8 @@ fn read_file<R: Env + Files>(rt: &R, i: usize, bytes: &mut [u8]) -> usize
     read_named(rt, &name[..length], bytes)
 }
 
-// Kept: two functions for the two files, and not one for any argument: each asks for a buffer of its own file's size by that limit's name.
+// Kept: two functions for the two files, since one for any argument would be no plainer: it would ask for a buffer by cases of the argument, and each
+// now asks by its own limit's name.
 // Reads the sheet, to one byte past the longest.
 fn read_sheet<R: Env + Files>(rt: &R, bytes: &mut [u8]) -> usize
     requires { length bytes.old ≡ read_bytes longest_sheet }

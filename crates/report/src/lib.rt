@@ -27,6 +27,7 @@ fn put_refusal(text: &mut Text<'_>, answer: Answer)
 }
 
 // The admit program's text at the front of the buffer, and its length. A buffer of the longest text's length holds it whole.
+// Kept: it is told any three numbers, and not an outcome, as it was and as the text's definition is; an outcome would ask more of a caller.
 pub fn admit_text(out: &mut [u8], sheet: &[u32], waits: &[u32], answer: Answer) -> usize
     ensures buffer { out.new ≡ overwritten out.old (admit_text sheet.now waits.now answer) }
     ensures count { result ≡ fitting out.old (admit_text sheet.now waits.now answer) }
@@ -42,6 +43,7 @@ pub fn admit_text(out: &mut [u8], sheet: &[u32], waits: &[u32], answer: Answer) 
 }
 
 // The replay program's text at the front of the buffer, and its length. A buffer of the longest text's length holds it whole.
+// Kept: it is told any three numbers, as the text above.
 pub fn replay_text(out: &mut [u8], begins: &[u32], count: u32, answer: Answer) -> usize
     ensures buffer { out.new ≡ overwritten out.old (replay_text begins.now count answer) }
     ensures count { result ≡ fitting out.old (replay_text begins.now count answer) }
