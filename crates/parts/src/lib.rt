@@ -31,24 +31,17 @@ pub fn write_rows(tables: &Tables<'_>, room: &mut [u32])
 
 // One body, in the part of the buffer that is lent from its place on: the words of `count` streams, which `before` others come before.
 #[tactic(auto, unfolding(theory::specs::Listing::joined_from))]
-fn write_body(
-    periods: &[u32],
-    deadlines: &[u32],
-    jitters: &[u32],
-    before: usize,
-    count: u32,
-    body: &mut [u32],
-)
+fn write_body(tables: &Tables<'_>, before: usize, count: u32, body: &mut [u32])
     requires { (before + count < 2 ^ 64) × (stream_words * count ≤ length body.old) }
-    ensures { body.new ≡ body_of periods.now deadlines.now jitters.now before count ++ drop (stream_words * count) body.old }
+    ensures { body.new ≡ body_of tables.now.periods.now tables.now.deadlines.now tables.now.jitters.now before count ++ drop (stream_words * count) body.old }
 {
     for i in 0..count {
         let from = before + wide(i);
         let at = layout::body_words(i);
         fill::put_stream(
-            word_at(periods, from),
-            word_at(deadlines, from),
-            word_at(jitters, from),
+            word_at(tables.periods, from),
+            word_at(tables.deadlines, from),
+            word_at(tables.jitters, from),
             &mut body[at..],
         );
     }
@@ -65,14 +58,7 @@ pub fn write_bodies(tables: &Tables<'_>, room: &mut [u32])
     let mut at = layout::first_body_at(n);
     for k in 1..=n {
         let count = node_entry(tables.counts, k);
-        write_body(
-            tables.periods,
-            tables.deadlines,
-            tables.jitters,
-            before,
-            count,
-            &mut room[at..],
-        );
+        write_body(tables, before, count, &mut room[at..]);
         before += wide(count);
         at += layout::body_words(count);
     }

@@ -28,41 +28,27 @@ fn check_contents(tables: &Tables<'_>) -> Result<(), Refusal>
 
 // Refusal 5 of stream j of node k, which `before` streams come before.
 #[tactic(auto, unfolding(tables::specs::Writing::table_stream_refusal))]
-fn check_stream(
-    periods: &[u32],
-    deadlines: &[u32],
-    jitters: &[u32],
-    before: usize,
-    k: u32,
-    j: u32,
-) -> Result<(), Refusal>
+fn check_stream(tables: &Tables<'_>, before: usize, k: u32, j: u32) -> Result<(), Refusal>
     requires { (1 ≤ j) × (before + j < 2 ^ 64) }
-    ensures { checked result ≡ table_stream_refusal periods.now deadlines.now jitters.now before k j }
+    ensures { checked result ≡ table_stream_refusal tables.now.periods.now tables.now.deadlines.now tables.now.jitters.now before k j }
 {
     let at = before + wide(j - 1);
     let wrong = range::times_outside(
-        word_at(periods, at),
-        word_at(deadlines, at),
-        word_at(jitters, at),
+        word_at(tables.periods, at),
+        word_at(tables.deadlines, at),
+        word_at(tables.jitters, at),
     );
     refuse_if(wrong, Refusal::Times { node: k, stream: j })
 }
 
 // Refusal 5 of node k's streams, `count` of them.
-fn check_body(
-    periods: &[u32],
-    deadlines: &[u32],
-    jitters: &[u32],
-    before: usize,
-    k: u32,
-    count: u32,
-) -> Result<(), Refusal>
+fn check_body(tables: &Tables<'_>, before: usize, k: u32, count: u32) -> Result<(), Refusal>
     requires { before + count < 2 ^ 64 }
-    ensures { checked result ≡ first_of (table_stream_refusal periods.now deadlines.now jitters.now before k) 1 count }
+    ensures { checked result ≡ first_of (table_stream_refusal tables.now.periods.now tables.now.deadlines.now tables.now.jitters.now before k) 1 count }
 {
     let check = |j: u32|
         requires { (1 ≤ j) × (before + j < 2 ^ 64) }
-    { check_stream(periods, deadlines, jitters, before, k, j) };
+    { check_stream(tables, before, k, j) };
     first_refusal(count, check)
 }
 
@@ -74,14 +60,7 @@ fn check_bodies(tables: &Tables<'_>, n: u32) -> Result<(), Refusal>
     let mut before = 0;
     for i in 0..n {
         let count = node_entry(tables.counts, i + 1);
-        check_body(
-            tables.periods,
-            tables.deadlines,
-            tables.jitters,
-            before,
-            i + 1,
-            count,
-        )?;
+        check_body(tables, before, i + 1, count)?;
         before += wide(count);
     }
     Ok(())

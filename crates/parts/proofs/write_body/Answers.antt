@@ -39,14 +39,14 @@ loop-i-preserved c =
     let a = c.args in
     let l = c.loop-i in
     let from = ap (λ n. a.before + n) c.wide.ensures.0 in
-    next-stream a.periods.now a.deadlines.now a.jitters.now a.body.now l.body c.put_stream.new.part a.before l.i _
+    next-stream a.tables.now.periods.now a.tables.now.deadlines.now a.tables.now.jitters.now a.body.now l.body c.put_stream.new.part a.before l.i _
     (omega arith)
     (omega arith)
     c.body_words-at.ensures.0
     l.invariant
-    (c.word_at.ensures ∙ ap (word a.periods.now) from)
-    (c.word_at-in-loop-i.ensures ∙ ap (word a.deadlines.now) from)
-    (c.word_at-in-loop-i-2.ensures ∙ ap (word a.jitters.now) from)
+    (c.word_at.ensures ∙ ap (word a.tables.now.periods.now) from)
+    (c.word_at-in-loop-i.ensures ∙ ap (word a.tables.now.deadlines.now) from)
+    (c.word_at-in-loop-i-2.ensures ∙ ap (word a.tables.now.jitters.now) from)
     c.put_stream.ensures
 
 pub returns : goal.returns
@@ -54,5 +54,5 @@ returns c =
     let a = c.args in
     let l = c.loop-i in
     let done : l.i ≡ a.count = omega arith in
-    let long = streams_length a.periods.now a.deadlines.now a.jitters.now a.before a.count in
-    l.invariant ∙ rw done (over_front a.body.now (body_of a.periods.now a.deadlines.now a.jitters.now a.before a.count) ∙ rw long refl)
+    let long = streams_length a.tables.now.periods.now a.tables.now.deadlines.now a.tables.now.jitters.now a.before a.count in
+    l.invariant ∙ rw done (over_front a.body.now (body_of a.tables.now.periods.now a.tables.now.deadlines.now a.tables.now.jitters.now a.before a.count) ∙ rw long refl)

@@ -6,4 +6,4 @@ use Rattle.tables.specs.Writing.{body_of}
 use Rattle.parts.proofs.write_body.Given as goal
 
 abbrev pub invariant-loop-i : goal.invariant-loop-i
-invariant-loop-i l = l.body ≡ replaced_at l.initial.body 0 (body_of l.periods l.deadlines l.jitters l.before l.i)
+invariant-loop-i l = l.body ≡ replaced_at l.initial.body 0 (body_of l.tables.periods.now l.tables.deadlines.now l.tables.jitters.now l.before l.i)
