@@ -1,17 +1,17 @@
 // The bus: one step with the record by value, and the replay.
 #![tactic(auto)]
 
-ghost use Rattle.std.specs.Prelude.{◌≡◌, length, IfOk, OnErr};
+ghost use Rattle.std.specs.Prelude.{◌≡◌, length, IfOk, OnErr, MatchResult};
 ghost use Rattle.model.specs.declared.Answer.{Answer};
 ghost use Rattle.model.specs.Demand.{WholeReplay};
 ghost use Rattle.model.specs.Answers.{step_answer, step_bus, step_buffer, replay_answer, replay_buffer};
-ghost use Rattle.refusals.specs.Numbers.{answered};
+ghost use Rattle.refusals.specs.Numbers.{answered, answered_with};
 ghost use Rattle.bus.specs.Numbers.{turned_numbers, replayed_numbers};
 
 use logs::{check_replay, check_step};
 use model::{Answer, Bus};
 use queue::{arrived_by, next_unbegun};
-use refusals::Refusal;
+use refusals::{Refusal, Refused};
 use runs::run_to;
 use turns::{clear, header_of, next_bus, run_turn};
 
@@ -55,14 +55,16 @@ impl From<Replayed> for Answer {
     }
 }
 
-// One step, with the bus record by value. Where it is refused, the record after it is the one that was handed in.
-pub fn turn(sheet: &[u32], log: &[u32], bus: Bus, room: &mut [u32]) -> Result<Turned, Refusal>
-    ensures numbers { answered turned_numbers result ≡ step_answer sheet.now log.now bus room.old }
-    ensures record { IfOk result (λ turned. turned.bus ≡ step_bus sheet.now log.now bus room.old) }
+// One step, with the bus record by value. A refusal hands the record back as it was.
+pub fn turn(sheet: &[u32], log: &[u32], bus: Bus, room: &mut [u32]) -> Result<Turned, Refused<Bus>>
+    ensures numbers { answered_with turned_numbers result ≡ step_answer sheet.now log.now bus room.old }
+    ensures record { MatchResult result (λ turned. turned.bus ≡ step_bus sheet.now log.now bus room.old) (λ refused. refused.kept ≡ step_bus sheet.now log.now bus room.old) }
     ensures refused { OnErr result (step_bus sheet.now log.now bus room.old ≡ bus) }
     ensures buffer { room.new ≡ step_buffer sheet.now log.now bus room.old }
 {
-    check_step(sheet, log, bus, room.len())?;
+    if let Err(refusal) = check_step(sheet, log, bus, room.len()) {
+        return Err(Refused { refusal, kept: bus });
+    }
     let from = next_unbegun(&room[..], 0, log.len() / 2);
     let to = arrived_by(log, bus.tick, 0);
     let header = header_of(sheet);

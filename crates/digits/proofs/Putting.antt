@@ -29,6 +29,10 @@ sets_append : (out : List ℕ) (at : ℕ) (a b : List ℕ) → sets out at (a ++
 sets_append out at [] b = rw add-zero refl
 sets_append out at (x ∷ a) b = rw (add-suc, ← suc-add) (sets_append (set out at x) (suc at) a b)
 
+-- No text.
+pub nothing : (out : List ℕ) (at : ℕ) {next : ℕ} → next ≡ min at (length out) → Put out at [] out next
+nothing out at e = record { bytes = refl; place = rw add-zero e }
+
 -- A buffer keeps its size.
 pub same_size : {a b t : List ℕ} {i j : ℕ} → Put a i t b j → length b ≡ length a
 same_size {a} {b} {t} {i} p = ap length p.bytes ∙ length-sets a i t
@@ -49,7 +53,7 @@ then {a} {b} {c} {t} {u} {i} {j} {k} p q =
 
 -- No text.
 pub adds_nothing : {a : Text} → Adds a [] a
-adds_nothing {a} = record { put = record { bytes = refl; place = rw add-zero (omega (arith, a.inside)) }; same = refl }
+adds_nothing {a} = record { put = nothing a.out.now a.at (omega (arith, a.inside)); same = refl }
 
 -- A text that goes on, and goes on again.
 pub adds_then : {a b c : Text} {t u : List ℕ} → Adds a t b → Adds b u c → Adds a (t ++ u) c
@@ -80,9 +84,19 @@ whole out text {next = next} room e f =
     let all : next ≡ length text = omega arith in
     rw (e, all, take_all (length out) text room) (take-append_seam text (drop (length text) out))
 
+-- A text that begins at any place of a buffer, and goes on: put there, also where the place is past the end.
+pub from_place : {out text : List ℕ} {place : ℕ} {a b : Text}
+    → a.out.now ≡ out
+    → a.at ≡ min place (length out)
+    → Adds a text b
+    → Put out place text b.out.now b.at
+from_place {out} {text} {place} {a} {b} e there p =
+    let put : Put out a.at text b.out.now b.at = rw e at p.put in
+    record { bytes = put.bytes ∙ cut_place out a.at place text there; place = omega (arith, there, put.place) }
+
 -- A text that begins at the front of a buffer, and goes on.
 pub from_front : {out text : List ℕ} {a b : Text} → a.out.now ≡ out → a.at ≡ 0 → Adds a text b → Put out 0 text b.out.now b.at
-from_front {text = text} {b = b} e front p = rw (e, front) at p.put
+from_front {out} e front p = from_place e (omega (arith, front)) p
 
 -- What is promised of a text at the front that is said to be at most so long where P holds.
 pub shown : {P : Type 0} {out text said after : List ℕ} {next most : ℕ}

@@ -1,7 +1,7 @@
 // Texts put into a lent buffer, one after the other. What does not fit is left out.
 #![tactic(auto)]
 
-ghost use Rattle.std.specs.Prelude.{◌≡◌, [], ◌∷◌, ◌++◌, ◌<◌};
+ghost use Rattle.std.specs.Prelude.{◌≡◌, [], ◌∷◌, ◌++◌, ◌<◌, min, length};
 ghost use Rattle.digits.specs.Decimal.{digit, decimal};
 ghost use Rattle.digits.specs.Put.{Adds};
 
@@ -19,7 +19,17 @@ impl<'a> Text<'a> {
         Text { out, at: 0 }
     }
 
-    // The bytes of the buffer that the text takes up.
+    // A text that begins at any place of the buffer; where the place is past the end, nothing of the text has room.
+    pub fn at_place(out: &'a mut [u8], place: usize) -> Text<'a>
+        ensures same_reference { result.out.ghost_name ≡ out.entry.ghost_name }
+        ensures buffer { result.out.now ≡ out.old }
+        ensures place { result.at ≡ min place (length out.old) }
+    {
+        let at = place.min(out.len());
+        Text { out, at }
+    }
+
+    // The place after the text.
     pub fn length(&self) -> usize
         ensures { result ≡ self.now.at }
     {

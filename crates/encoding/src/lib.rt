@@ -96,10 +96,14 @@ pub fn resume_in(
     ensures whole { ContinuesIn sheet.now words.old piece.now (answered run_numbers result) words.new room.new }
 {
     let before = checkpoint_in(words);
-    let resumed = before.resume(sheet, piece, horizon, room)?;
-    put_checkpoint(resumed.checkpoint, words);
-    Ok(PieceRun {
-        begun: resumed.begun,
-        turns: resumed.turns,
-    })
+    match before.resume(sheet, piece, horizon, room) {
+        Ok(resumed) => {
+            put_checkpoint(resumed.checkpoint, words);
+            Ok(PieceRun {
+                begun: resumed.begun,
+                turns: resumed.turns,
+            })
+        }
+        Err(refused) => Err(refused.refusal),
+    }
 }

@@ -1,7 +1,7 @@
 -- The words of some bytes, one more at a time. Assumes nothing.
-use Prim.Native.Nat.{ℕ, zero, suc, ◌+◌, ◌*◌, ◌/◌, ◌%◌, ◌≤◌, ◌<◌}
+use Prim.Native.Nat.{ℕ, zero, suc, ◌+◌, ◌*◌, ◌/◌, ◌%◌, ◌≤◌, ◌<◌, zero-le}
 use native.Mathlib.Nat.{add-zero, zero-add, suc-add, add-suc}
-use native.Mathlib.Decide.{dec_le}
+use native.Mathlib.Decide.{dec_le, dec_lt, ℕ_discrete}
 use native.Mathlib.Numerals.{add-one}
 use native.Mathlib.Omega.{arith}
 use mathlib.Core.Path.{◌≡◌, refl, sym, ◌∙◌, ap}
@@ -88,6 +88,15 @@ read_enough most bytes = go (dec_le (length bytes) (read_bytes most))
 pub loaded_front : {most count : ℕ} {bytes before after : List ℕ} → Loaded most bytes before after count → take count after ≡ loaded most bytes
 loaded_front {most} {count} {bytes} {before} {after} l =
     ap (take count) l.words ∙ take_at (loaded most bytes) (drop count before) count (sym l.counted)
+
+-- No more words than there may be.
+pub loaded_most : (most : ℕ) (bytes : List ℕ) → length (loaded most bytes) ≤ most
+loaded_most most bytes = go (dec_lt (word_bytes * most) (length bytes)) (ℕ_discrete (length bytes % word_bytes) 0)
+  where
+    go : Dec (word_bytes * most < length bytes) → Dec (length bytes % word_bytes ≡ 0) → length (loaded most bytes) ≤ most
+    go (yes long) whole? = rw (too_long most bytes long) zero-le
+    go (no short) (no odd) = rw (uneven most bytes odd) zero-le
+    go (no short) (yes even) = rw (whole most bytes even (omega arith), words_length) (omega arith)
 
 -- A valid sheet has all its words: none is longer than the longest.
 pub valid_whole : (bytes : List ℕ) → length bytes % word_bytes ≡ 0 → Valid (all_words bytes) → loaded longest_sheet bytes ≡ all_words bytes

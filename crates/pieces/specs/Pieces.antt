@@ -13,7 +13,7 @@ use Rattle.model.specs.Protocol.{releases, release_tick, release_stream, State, 
 use Rattle.model.specs.Trace.{run_words, replay_words, begin_listed, unbegun}
 use Rattle.model.specs.Answers.{record_refusal, waiting_refusal, room_refusal, piece_refusal, buffer_after}
 use Rattle.model.specs.Demand.{Accepts}
-use Rattle.refusals.specs.declared.Refusal.{Refusal}
+use Rattle.refusals.specs.declared.Refused.{Refused}
 use Rattle.refusals.specs.Numbers.{numbers}
 
 -- The record with nothing waiting, at a horizon, with a next turn and so many releases.
@@ -192,10 +192,10 @@ pub record Outcome : Type 0 where
 abbrev pub resumed_numbers : Resumed → Answer
 resumed_numbers r = success r.begun r.turns
 
--- What a piece answers with a record, and hands back: a refusal, the record as it was.
-abbrev pub outcome_of : Checkpoint → Result Resumed Refusal → Outcome
-outcome_of c (Ok r) = record { answer = resumed_numbers r; checkpoint = r.checkpoint }
-outcome_of c (Err refusal) = record { answer = numbers refusal; checkpoint = c }
+-- What a piece answers, and the record that it hands back, refused or not.
+abbrev pub outcome_of : Result Resumed (Refused Checkpoint) → Outcome
+outcome_of (Ok r) = record { answer = resumed_numbers r; checkpoint = r.checkpoint }
+outcome_of (Err refused) = record { answer = numbers refused.refusal; checkpoint = refused.kept }
 
 -- What a piece promises of a record that pieces made: the one handed back, with the words answered, is one of the log with this piece after
 -- it.

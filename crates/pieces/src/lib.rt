@@ -2,19 +2,19 @@
 // horizon, and is handed back by value.
 #![tactic(auto)]
 
-ghost use Rattle.std.specs.Prelude.{◌≡◌, ◌*◌, ◌≤◌, ◌<◌, ◌++◌, length, drop, IfOk, OnErr};
+ghost use Rattle.std.specs.Prelude.{◌≡◌, ◌*◌, ◌≤◌, ◌<◌, ◌++◌, length, drop, OnErr, MatchResult};
 ghost use Rattle.model.specs.Limits.{release_words, max_time, max_waiting};
 ghost use Rattle.model.specs.Refusal.{success};
 ghost use Rattle.model.specs.Protocol.{releases, none_begun, run};
 ghost use Rattle.model.specs.Trace.{run_words, unbegun};
 ghost use Rattle.queue.specs.Queue.{ValidNode, RisingFrom};
 ghost use Rattle.pieces.specs.Pieces.{fresh_checkpoint, with_release, emptied, holding, piece_end, piece_words, piece_checkpoint, resume_refusal, resume_answer, resume_checkpoint, resume_buffer, resumed_numbers, outcome_of, Continues};
-ghost use Rattle.refusals.specs.Numbers.{answered};
+ghost use Rattle.refusals.specs.Numbers.{answered_with};
 
 use check::check_resume;
 use model::Bus;
 use open::{open_log, open_numbers};
-use refusals::Refusal;
+use refusals::Refused;
 use trace::run_log;
 
 mod check; // check.rt: the refusals of a piece
@@ -174,21 +174,26 @@ impl Checkpoint {
     // A piece: its releases, with ticks from the record's horizon up to below the new one, and the new horizon. Answers how many messages
     // began in it and the turns so far, with the record to go on from; the buffer's first words have release number and begin tick of
     // each message begun, in the order begun. A record that pieces made stands for the log that they were a cutting of, and so does the
-    // one handed back. Where the piece is refused, the record to go on from is the one that was handed in.
+    // one handed back. A refusal hands the record back as it was.
     pub fn resume(
         self,
         sheet: &[u32],
         piece: &[u32],
         horizon: u32,
         room: &mut [u32],
-    ) -> Result<Resumed, Refusal>
-        ensures answer { answered resumed_numbers result ≡ resume_answer sheet.now self piece.now horizon (length room.old) }
-        ensures checkpoint { IfOk result (λ resumed. resumed.checkpoint ≡ resume_checkpoint sheet.now self piece.now horizon (length room.old)) }
+    ) -> Result<Resumed, Refused<Checkpoint>>
+        ensures answer { answered_with resumed_numbers result ≡ resume_answer sheet.now self piece.now horizon (length room.old) }
+        ensures checkpoint { MatchResult result (λ resumed. resumed.checkpoint ≡ resume_checkpoint sheet.now self piece.now horizon (length room.old)) (λ refused. refused.kept ≡ resume_checkpoint sheet.now self piece.now horizon (length room.old)) }
         ensures refused { OnErr result (resume_checkpoint sheet.now self piece.now horizon (length room.old) ≡ self) }
         ensures buffer { room.new ≡ resume_buffer sheet.now self piece.now horizon room.old }
-        ensures whole { Continues sheet.now self piece.now (outcome_of self result) room.new }
+        ensures whole { Continues sheet.now self piece.now (outcome_of result) room.new }
     {
-        check_resume(sheet, self, piece, horizon, room.len())?;
-        Ok(self.run_piece(sheet, piece, horizon, room))
+        match check_resume(sheet, self, piece, horizon, room.len()) {
+            Ok(()) => Ok(self.run_piece(sheet, piece, horizon, room)),
+            Err(refusal) => Err(Refused {
+                refusal,
+                kept: self,
+            }),
+        }
     }
 }

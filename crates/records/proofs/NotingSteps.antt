@@ -1,5 +1,5 @@
 -- A turn's messages are noted one by one: what is left of the noting equals the whole, so that a loop can keep it. Assumes nothing.
-use Prim.Native.Nat.{ℕ, pred, ◌+◌, ◌*◌, ◌≤◌, ◌<◌, suc}
+use Prim.Native.Nat.{ℕ, pred, ◌+◌, ◌*◌, ◌≤◌, ◌<◌, suc, zero-le}
 use mathlib.Core.Path.{◌≡◌, refl, sym, ap, ◌∙◌, subst}
 use mathlib.Core.Bool.{Bool, true, false, cond}
 use mathlib.Core.List.{List, []}
@@ -62,6 +62,7 @@ pub record NotingAt (log limits : List ℕ) (ticks tick : ℕ) (places : List �
       ≡ noted_from log limits ticks tick (take count places) records₀
   pub can : CanBeNoted log limits (take count places) tick (max_releases + j) records
   pub long : length records ≡ length records₀
+  pub up_to : j ≤ count
 
 module _ (log limits : List ℕ) (ticks tick : ℕ) (places : List ℕ) (count : ℕ) (records₀ : List StreamRecord) where
   -- None has been noted yet.
@@ -72,6 +73,7 @@ module _ (log limits : List ℕ) (ticks tick : ℕ) (places : List ℕ) (count :
         rest = ap (λ n. noted_from log limits ticks n (take count places) records₀) (omega arith);
         can = can;
         long = refl;
+        up_to = zero-le;
       }
 
   module _ (j : ℕ) (records : List StreamRecord) (at : NotingAt log limits ticks tick places count records₀ j records) where
@@ -145,4 +147,5 @@ module _ (log limits : List ℕ) (ticks tick : ℕ) (places : List ℕ) (count :
                       (counts_kept records note (pred (release_stream log i)) next_recorded (at.can.counts next next_in_log) (at.can.counts i h));
                 };
             long = noted-length records note ∙ at.long;
+            up_to = omega arith;
           }

@@ -3,6 +3,7 @@ use Rattle.std.specs.Prelude.{◌≡◌, ℕ, ◌≤◌, ⊤, Result, Ok, Err}
 use Rattle.model.specs.declared.Answer.{Answer}
 use Rattle.model.specs.Refusal.{refuse, accepted}
 use Rattle.refusals.specs.declared.Refusal.{Refusal}
+use Rattle.refusals.specs.declared.Refused.{Refused}
 use Rattle.refusals.specs.declared.Refusal.TheVariants.{Header, Nodes, Ticks, Length, Row, Times, Room, Late, Unknown, Log, Release, Horizon, Stuck, Places, Foreign, Record}
 
 -- The number of a refusal, and its place.
@@ -28,6 +29,11 @@ numbers Record = refuse 16 0 0
 abbrev pub answered : {T : Type 0} → (T → Answer) → Result T Refusal → Answer
 answered done (Ok x) = done x
 answered done (Err refusal) = numbers refusal
+
+-- The same of an entry whose refusal hands a record back.
+abbrev pub answered_with : {T R : Type 0} → (T → Answer) → Result T (Refused R) → Answer
+answered_with done (Ok x) = done x
+answered_with done (Err refused) = numbers refused.refusal
 
 -- What a check answers in numbers: no reason to refuse, or the refusal.
 abbrev pub checked : Result ⊤ Refusal → Answer

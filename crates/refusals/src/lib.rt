@@ -46,6 +46,13 @@ pub enum Refusal {
     Record,
 }
 
+// A refusal of a request whose record goes in by value: why, and the record, which is handed back.
+#[derive(Clone, Copy)]
+pub struct Refused<R> {
+    pub refusal: Refusal,
+    pub kept: R,
+}
+
 // An answer of three numbers, for a refusal.
 impl From<Refusal> for Answer {
     ghost from_gives = { λ refusal answer. answer ≡ numbers refusal };

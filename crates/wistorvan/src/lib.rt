@@ -1,5 +1,5 @@
 // The library for programs in C and Rust: the entries under their plain names, each with the contract of the function that it
-// calls. A lent table passes as a pointer to its words and then their number. Each answers three numbers, since C does.
+// calls, said of its three numbers, since C is answered these. A lent table passes as a pointer to its words and then their number.
 #![tactic(auto)]
 
 ghost use Rattle.std.specs.Prelude.{◌≡◌, length, ◌≤◌};
@@ -110,7 +110,7 @@ pub extern "C" fn wistorvan_step(
             *rec = turned.bus;
             turned.into()
         }
-        Err(refusal) => refusal.into(),
+        Err(refused) => refused.refusal.into(),
     }
 }
 

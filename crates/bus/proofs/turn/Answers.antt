@@ -1,6 +1,5 @@
 -- `bus::turn` meets its contract: where the checks find nothing, the turn that is run is the step's. Assumes nothing.
 use Rattle.std.proofs.Common.{rules}
-use Rattle.std.proofs.lemmas.Result.{err_from_is_err_and}
 use mathlib.Core.Path.{◌∙◌, ap, sym}
 use native.Mathlib.Omega.{arith}
 use Rattle.turns.proofs.TurnSteps.{taken_few}
@@ -13,17 +12,17 @@ use Rattle.bus.proofs.turn.Goals as goal
 pub next_unbegun-from-requires : goal.next_unbegun-from-requires
 next_unbegun-from-requires c =
     -- the checks found nothing
-    let ok = step_accepted (sym (ap (λ a. a.number) c.in_ok-check_step.ensures)) in
+    let ok = step_accepted (sym (ap (λ a. a.number) c.in_default.ensures)) in
     (omega arith, omega (arith, ok.room_for))
 
 pub arrived_by-to-requires : goal.arrived_by-to-requires
 arrived_by-to-requires c =
-    let ok = step_accepted (sym (ap (λ a. a.number) c.in_ok-check_step.ensures)) in
+    let ok = step_accepted (sym (ap (λ a. a.number) c.in_default.ensures)) in
     ((λ i low. log_rises _ _ ok.logged i), omega arith)
 
 pub run_turn-taken-requires : goal.run_turn-taken-requires
 run_turn-taken-requires c =
-    let ok = step_accepted (sym (ap (λ a. a.number) c.in_ok-check_step.ensures)) in
+    let ok = step_accepted (sym (ap (λ a. a.number) c.in_default.ensures)) in
     let next = c.next_unbegun-from.ensures in
     let arrived = c.arrived_by-to.ensures.arrived in
     record {
@@ -42,31 +41,24 @@ run_turn-taken-requires c =
 pub next_bus-next-requires : goal.next_bus-next-requires
 next_bus-next-requires c =
     let a = c.args in
-    let ok = step_accepted (sym (ap (λ a. a.number) c.in_ok-check_step.ensures)) in
+    let ok = step_accepted (sym (ap (λ a. a.number) c.in_default.ensures)) in
     let few = taken_few a.sheet.now a.log.now a.bus a.room.now (step_node ok) in
     record {
       valid_node = (step_node ok, c.header_of-header.ensures);
       tick_le_max_time = (ok.tick_to, omega (arith, ok.turns_to), rw c.run_turn-taken.ensures.taken few);
     }
 
--- a refusal leaves the record and the buffer
-pub returns-in_err-check_step : goal.returns-in_err-check_step
-returns-in_err-check_step c =
+-- a refusal hands the record back, and leaves the buffer
+pub returns-in-Err : goal.returns-in-Err
+returns-in-Err c =
     let a = c.args in
-    let check = c.in_err-check_step in
-    let returned = err_from_is_err_and c.from_residual.result c.from_residual.ensures.1 in
-    let outcome = step_refused_lem a.sheet.now a.log.now a.bus a.room.now check.ensures (refuses check.field-0.0) in
-    record {
-      numbers = rw (returned.1, returned.2) outcome.answered;
-      «record» = search rules;
-      refused = rw returned.1 (sym outcome.recorded);
-      buffer = outcome.written;
-    }
+    let outcome = step_refused_lem a.sheet.now a.log.now a.bus a.room.now c.in-Err.ensures (refuses c.in-Err.refusal) in
+    record { numbers = outcome.answered; «record» = outcome.recorded; refused = sym outcome.recorded; buffer = outcome.written }
 
 pub returns : goal.returns
 returns c =
     let a = c.args in
-    let none = sym (ap (λ a. a.number) c.in_ok-check_step.ensures) in
+    let none = sym (ap (λ a. a.number) c.in_default.ensures) in
     let taken = c.run_turn-taken.ensures.taken in
     let next = rw taken at c.next_bus-next.ensures in
     let outcome = step_served a.sheet.now a.log.now a.bus a.room.now none in

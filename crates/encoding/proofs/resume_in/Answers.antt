@@ -5,16 +5,16 @@ use Rattle.refusals.proofs.Chains.{refuses}
 use Rattle.encoding.proofs.WordsOutcome.{table_kept, table_run}
 use Rattle.encoding.proofs.resume_in.Goals as goal
 
-pub returns-in_err-resumed-clause-checkpoint : goal.returns-in_err-resumed-clause-checkpoint
-returns-in_err-resumed-clause-checkpoint c =
+pub returns-in-Err-clause-checkpoint : goal.returns-in-Err-clause-checkpoint
+returns-in-Err-clause-checkpoint c =
     let a = c.args in
-    let is = rw c.checkpoint_in-before.ensures at c.in_err-resumed.ensures in
-    table_kept a.sheet.now a.words.now a.piece.now a.horizon (length a.room.now) is.answer (refuses c.in_err-resumed.field-0.0)
+    let is = rw c.checkpoint_in-before.ensures at c.in-Err.ensures in
+    table_kept a.sheet.now a.words.now a.piece.now a.horizon (length a.room.now) is.answer (refuses c.in-Err.refused.refusal)
 
-pub returns : goal.returns
-returns c =
+pub returns-in-Ok : goal.returns-in-Ok
+returns-in-Ok c =
     let a = c.args in
-    let is = rw c.checkpoint_in-before.ensures at c.in_ok-resumed.ensures in
+    let is = rw c.checkpoint_in-before.ensures at c.in-Ok.ensures in
     let table = table_run a.sheet.now a.words.now a.piece.now a.horizon (length a.room.now) c.resume.new.room is.answer refl is.checkpoint c.put_checkpoint.ensures is.whole in
     record {
       answer = is.answer;

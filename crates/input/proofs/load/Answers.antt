@@ -4,10 +4,11 @@ use Prim.Native.Nat.{ℕ, zero-le, ◌%◌, ◌/◌, ◌≤◌, ◌+◌}
 use native.Mathlib.Omega.{arith}
 use mathlib.Core.Path.{◌≡◌, refl, sym, ap, ◌∙◌}
 use mathlib.Core.List.{List, [], ◌∷◌, ◌++◌}
-use lib.ListN.{length, drop, set}
+use lib.ListN.{length, drop, set, get_or}
 use lib.Seq.{length-take-le}
 use Rattle.theory.proofs.Overwriting.{write_next}
 use Rattle.std.proofs.lemmas.Bool.Decides.{nat_tests}
+use Rattle.std.specs.Int.{w32, from_le_bytes}
 use Rattle.input.specs.Input.{word_bytes, word_at, words_from, loaded, Loaded}
 use Rattle.input.proofs.Words.{words_length, words_more, chunk_word, uneven, too_long, whole}
 use Rattle.input.proofs.load.Goals as goal
@@ -38,7 +39,9 @@ loop-i-preserved c =
     let i = c.loop-i.i in
     let before = words_from bytes 0 i in
     let word : c.from_le_bytes.result ≡ word_at bytes i =
-    rw c.as_chunks.ensures.front at c.from_le_bytes.ensures ∙ chunk_word bytes _ i [] (omega arith)
+    c.from_le_bytes.ensures
+    ∙ ap (λ (chunks : List (List ℕ)). from_le_bytes w32 (get_or chunks i [])) c.as_chunks.ensures.front
+    ∙ chunk_word bytes _ i [] (omega arith)
     in
     ap (λ l. set l i c.from_le_bytes.result) c.loop-i.invariant
     ∙ write_next before old i c.from_le_bytes.result (words_length bytes 0 i) (omega arith)
