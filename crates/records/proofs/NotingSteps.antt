@@ -76,14 +76,23 @@ module _ (log limits : List ℕ) (ticks tick : ℕ) (places : List ℕ) (count :
         up_to = zero-le;
       }
 
+  -- Where no message is left to note, all have been noted, also for a j past their number.
+  pub none_to_note : (j : ℕ) (records : List StreamRecord)
+      → noted_from log limits ticks (tick + j * ticks) (drop j (take count places)) records
+      ≡ noted_from log limits ticks tick (take count places) records₀
+      → count ≤ length places
+      → count ≤ j
+      → records ≡ noted_from log limits ticks tick (take count places) records₀
+  unfolding noted_from
+  none_to_note j records rest long done =
+      let line = length-take-le count places long in
+      let none : drop j (take count places) ≡ [] = drop_of_length-le (take count places) {i = j} (omega (arith, line)) in
+      sym (ap (λ xs. noted_from log limits ticks (tick + j * ticks) xs records) none) ∙ rest
+
   module _ (j : ℕ) (records : List StreamRecord) (at : NotingAt log limits ticks tick places count records₀ j records) where
     -- All have been noted.
     pub noting_ends : count ≤ length places → count ≤ j → records ≡ noted_from log limits ticks tick (take count places) records₀
-    unfolding noted_from
-    noting_ends long done =
-        let line = length-take-le count places long in
-        let none : drop j (take count places) ≡ [] = drop_of_length-le (take count places) {i = j} (omega (arith, line)) in
-        sym (ap (λ xs. noted_from log limits ticks (tick + j * ticks) xs records) none) ∙ at.rest
+    noting_ends long done = none_to_note j records at.rest long done
 
     module _ (long : count ≤ length places) (more : j < count) where
       -- the release at place j
